@@ -1,0 +1,5 @@
+pub mod Products
+pub mod Quotients
+pub mod Powers
+pub mod Roots
+pub mod Integers

@@ -1,0 +1,27 @@
+-- Powers of two for `omega`: `simp pow-out` takes each power of a sum apart, and then a power of a variable is an unknown. Assumes nothing.
+use mathlib.Core.Path.{_≡_, refl, sym, ap, _∙_}
+use Prim.Native.Nat.{ℕ, zero, suc, _+_, _*_, _-_, _/_, _%_, _^_, _≤_, _<_}
+use native.Mathlib.Nat.{pow-suc, mul-le-mul}
+use native.Mathlib.Omega.{arith, by-contra, both-ways}
+use lib.Pow.{pow-add, pow-pos, pow-mono, pow-lt}
+use Rattle.algebra.proofs.Products.{order, times-le, le-split}
+
+pub ruleset pow-out = (pow-add, pow-suc)
+
+-- a difference in an exponent, as a product
+pub pow-diff : {a b : ℕ} → b ≤ a → 2 ^ (a - b) * 2 ^ b ≡ 2 ^ a
+pow-diff {a} {b} h = sym (pow-add 2 (a - b) b) ∙ ap (λ x. 2 ^ x) (omega arith)
+
+-- a larger power is a multiple of a smaller
+pub pow-multiple : {a b : ℕ} → a ≤ b → (d : ℕ) × (2 ^ b ≡ d * 2 ^ a) × (0 < d)
+pow-multiple {a} {b} h = (2 ^ (b - a), sym (pow-diff h), pow-pos (b - a))
+
+pub pow-inj-lt : (i j : ℕ) → 2 ^ i < 2 ^ j → i < j
+pow-inj-lt i j h = by-contra (suc i) j (λ l. omega (arith, pow-mono {i = j} {j = i} (omega arith)))
+
+-- the place of the top bit is one number
+pub top-unique : (n i j : ℕ) → 2 ^ i ≤ n → n < 2 ^ (i + 1) → 2 ^ j ≤ n → n < 2 ^ (j + 1) → i ≡ j
+top-unique n i j a b c d =
+    let p = pow-inj-lt i (j + 1) (omega arith) in
+    let q = pow-inj-lt j (i + 1) (omega arith) in
+    omega arith

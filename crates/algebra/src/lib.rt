@@ -1,0 +1,1 @@
+// Lemmas on whole numbers and integers: no function.

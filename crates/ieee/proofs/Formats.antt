@@ -1,0 +1,23 @@
+-- The formats are fair, and have the scope's numbers. Assumes nothing.
+use mathlib.Core.Path.{refl}
+use lib.Dec.{lit≤, lit<}
+use Rattle.ieee.specs.Format.{Format, Fair, b32, b64, units}
+use Rattle.ieee.specs.Numbers.{Numbers64, Numbers32}
+
+pub fair64 : Fair b64
+fair64 = record { frac-pos = lit≤ tt; expo-two = lit≤ tt; frac-fits = lit< tt }
+
+pub fair32 : Fair b32
+fair32 = record { frac-pos = lit≤ tt; expo-two = lit≤ tt; frac-fits = lit< tt }
+
+-- nothing here stops binary16
+pub fair16 : Fair (record { frac = 10; expo = 5 })
+fair16 = record { frac-pos = lit≤ tt; expo-two = lit≤ tt; frac-fits = lit< tt }
+
+pub numbers64 : Numbers64
+unfolding units
+numbers64 = record { fraction = refl; offset = refl; smallest = (refl, refl, refl); overflow = refl; quiet = refl }
+
+pub numbers32 : Numbers32
+unfolding units
+numbers32 = record { fraction = refl; offset = refl; smallest = (refl, refl, refl); overflow = refl; quiet = refl }

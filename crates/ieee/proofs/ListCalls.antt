@@ -1,0 +1,173 @@
+-- The list call: what it refuses, and what the output holds at each place. Assumes nothing.
+use Prim.Native.Nat.{ℕ, zero, suc, _≤_, _<_}
+use mathlib.Core.Path.{_≡_, refl, sym, ap, _∙_}
+use mathlib.Core.Logic.{_↔_, Iff·rfl, Iff·trans, _⊎_, inl, inr}
+use mathlib.Core.Bool.{Bool, not, _&&_, _||_}
+use mathlib.Core.List.{List, [], _∷_, map}
+use native.Mathlib.Omega.{arith}
+use lib.Dec.{leb, ltb, eqb}
+use lib.ListN.{length, getD, length-map}
+use lib.Seq.{ext-getD}
+use Rattle.ieee.specs.Format.{Format}
+use Rattle.ieee.specs.Sqrt.{sqrtOf}
+use Rattle.ieee.specs.Whole.{floorOf, truncOf}
+use Rattle.ieee.specs.Refusal.{given, done, refused, numberOf, valueOf}
+use Rattle.ieee.specs.Lists.{operation, listRefusals, Listed, listBy, listIn}
+use Rattle.ieee.proofs.Decide.{Reads, so, not-so, split, leb-reads, eqb-reads, and-reads}
+use Rattle.ieee.proofs.Refusals.{given-first, given-none, first-here, first-later, none-later, none-last, Tells, by-reads, ltb-tells, not-tells, or-tells, either, same-at}
+
+-- ---- the operations
+abbrev pub Known : ℕ → Type 0
+Known op = (op ≡ 1) ⊎ (op ≡ 2) ⊎ (op ≡ 3)
+
+pub operation-sqrt : (f : Format) (x : ℕ) → operation f 1 x ≡ sqrtOf f x
+unfolding operation
+operation-sqrt f x = refl
+
+pub operation-floor : (f : Format) (x : ℕ) → operation f 2 x ≡ floorOf f x
+unfolding operation
+operation-floor f x = refl
+
+pub operation-trunc : (f : Format) (x : ℕ) → operation f 3 x ≡ truncOf f x
+unfolding operation
+operation-trunc f x = refl
+
+-- ---- the refusals
+-- a list is too long
+abbrev pub Long : ℕ → List ℕ → List ℕ → Type 0
+Long n xs ys = (n < length xs) ⊎ (n < length ys)
+
+abbrev pub Short : ℕ → List ℕ → List ℕ → Type 0
+Short n xs ys = (length xs ≤ n) × (length ys ≤ n)
+
+abbrev pub SameLength : List ℕ → List ℕ → Type 0
+SameLength xs ys = length xs ≡ length ys
+
+-- when each number k is given
+pub record ListRefusals (n op : ℕ) (xs ys : List ℕ) (k : ℕ) : Type 0 where
+  pub one : (k ≡ 1) ↔ (Known op → ⊥)
+  pub two : (k ≡ 2) ↔ (Known op × Long n xs ys)
+  pub three : (k ≡ 3) ↔ (Known op × (Short n xs ys × (SameLength xs ys → ⊥)))
+  pub none : (k ≡ 0) ↔ (Known op × (Short n xs ys × SameLength xs ys))
+  pub only : (k ≡ 0) ⊎ (k ≡ 1) ⊎ (k ≡ 2) ⊎ (k ≡ 3)
+
+pub refusals-same : {n op i j : ℕ} {xs ys : List ℕ} → ListRefusals n op xs ys i → ListRefusals n op xs ys j → i ≡ j
+refusals-same {i = i} {j} p q = go (p .only)
+  where
+    go : (i ≡ 0) ⊎ (i ≡ 1) ⊎ (i ≡ 2) ⊎ (i ≡ 3) → i ≡ j
+    go (inl h) = same-at (p .none) (q .none) h
+    go (inr (inl h)) = same-at (p .one) (q .one) h
+    go (inr (inr (inl h))) = same-at (p .two) (q .two) h
+    go (inr (inr (inr h))) = same-at (p .three) (q .three) h
+
+-- ---- the tests and what they tell
+in-range : (op : ℕ) → 1 ≤ op → op ≤ 3 → Known op
+in-range zero l h = absurd (omega arith)
+in-range (suc zero) l h = inl refl
+in-range (suc (suc zero)) l h = inr (inl refl)
+in-range (suc (suc (suc zero))) l h = inr (inr refl)
+in-range (suc (suc (suc (suc k)))) l h = absurd (omega arith)
+
+range-of : {op : ℕ} → Known op → (1 ≤ op) × (op ≤ 3)
+range-of (inl e) = omega arith
+range-of (inr (inl e)) = omega arith
+range-of (inr (inr e)) = omega arith
+
+known-reads : (op : ℕ) → Reads (Known op) (leb 1 op && leb op 3)
+known-reads op = go (and-reads (leb-reads 1 op) (leb-reads op 3))
+  where
+    go : {b : Bool} → Reads ((1 ≤ op) × (op ≤ 3)) b → Reads (Known op) b
+    go (so h) = so (in-range op (h .0) (h .1))
+    go (not-so n) = not-so (λ h. n (range-of h))
+
+module _ (n op : ℕ) (xs ys : List ℕ) where
+  unknown : Tells (Known op → ⊥) (Known op) (not (leb 1 op && leb op 3))
+  unknown = not-tells (by-reads (known-reads op) Iff·rfl)
+
+  long : Tells (Long n xs ys) (Short n xs ys) (ltb n (length xs) || ltb n (length ys))
+  long = or-tells (ltb-tells n (length xs)) (ltb-tells n (length ys))
+
+  unlike : Tells (SameLength xs ys → ⊥) (SameLength xs ys) (not (eqb (length xs) (length ys)))
+  unlike = not-tells (by-reads (eqb-reads (length xs) (length ys)) Iff·rfl)
+
+  given-refusals : ListRefusals n op xs ys (given (listRefusals n op xs ys))
+  given-refusals = record { one = one; two = two; three = three; none = none; only = only }
+    where
+      k : ℕ
+      k = given (listRefusals n op xs ys)
+
+      one : (k ≡ 1) ↔ (Known op → ⊥)
+      one = Iff·trans (given-first (listRefusals n op xs ys) 1 (omega arith)) (first-here unknown (omega arith))
+
+      two : (k ≡ 2) ↔ (Known op × Long n xs ys)
+      two = Iff·trans (given-first (listRefusals n op xs ys) 2 (omega arith)) (first-later unknown (omega arith) (first-here long (omega arith)))
+
+      three : (k ≡ 3) ↔ (Known op × (Short n xs ys × (SameLength xs ys → ⊥)))
+      three = Iff·trans (given-first (listRefusals n op xs ys) 3 (omega arith)) (first-later unknown (omega arith) (first-later long (omega arith) (first-here unlike (omega arith))))
+
+      none : (k ≡ 0) ↔ (Known op × (Short n xs ys × SameLength xs ys))
+      none = Iff·trans (given-none (listRefusals n op xs ys) (omega arith)) (none-later unknown (none-later long (none-last unlike)))
+
+      only : (k ≡ 0) ⊎ (k ≡ 1) ⊎ (k ≡ 2) ⊎ (k ≡ 3)
+      only =
+          either unknown (λ u. inr (inl (one .1 u))) (λ o.
+          either long (λ l. inr (inr (inl (two .1 (o, l))))) (λ s.
+          either unlike (λ d. inr (inr (inr (three .1 (o, (s, d)))))) (λ a.
+          inl (none .1 (o, (s, a))))))
+
+-- ---- the whole result
+pub record ListedAs (f : Format) (n op : ℕ) (xs ys : List ℕ) (l : Listed) : Type 0 where
+  pub refusals : ListRefusals n op xs ys (numberOf (l .answer))
+  pub no-value : valueOf (l .answer) ≡ 0
+  pub untouched : (numberOf (l .answer) ≡ 0 → ⊥) → l .output ≡ ys
+  pub filled : numberOf (l .answer) ≡ 0 → length (l .output) ≡ length xs
+  pub places : numberOf (l .answer) ≡ 0 → (i : ℕ) → i < length xs → getD (l .output) i 0 ≡ operation f op (getD xs i 0)
+
+map-places : (g : ℕ → ℕ) (xs : List ℕ) (i : ℕ) → i < length xs → getD (map g xs) i 0 ≡ g (getD xs i 0)
+map-places g [] i l = absurd (omega arith)
+map-places g (x ∷ xs) zero l = refl
+map-places g (x ∷ xs) (suc i) l = map-places g xs i (omega arith)
+
+module _ (f : Format) (n op : ℕ) (xs ys : List ℕ) where
+  listed-by : (k : ℕ) → ListRefusals n op xs ys k → ListedAs f n op xs ys (listBy f op xs ys k)
+  unfolding listBy
+  listed-by zero r = record { refusals = r; no-value = refl; untouched = λ z. absurd (z refl); filled = λ z. length-map xs (operation f op); places = λ z. map-places (operation f op) xs }
+  listed-by (suc k) r = record { refusals = r; no-value = refl; untouched = λ z. refl; filled = λ z. absurd (omega arith); places = λ z. absurd (omega arith) }
+
+  pub list-is : ListedAs f n op xs ys (listIn f n op xs ys)
+  unfolding listIn
+  list-is = listed-by (given (listRefusals n op xs ys)) (given-refusals n op xs ys)
+
+  pub list-only : (l m : Listed) → ListedAs f n op xs ys l → ListedAs f n op xs ys m → (numberOf (l .answer) ≡ numberOf (m .answer)) × (valueOf (l .answer) ≡ valueOf (m .answer)) × (l .output ≡ m .output)
+  list-only l m p q = (same, p .no-value ∙ sym (q .no-value), split (eqb-reads (numberOf (l .answer)) 0) written left)
+    where
+      same : numberOf (l .answer) ≡ numberOf (m .answer)
+      same = refusals-same (p .refusals) (q .refusals)
+
+      left : (numberOf (l .answer) ≡ 0 → ⊥) → l .output ≡ m .output
+      left z = p .untouched z ∙ sym (q .untouched (omega (arith, same)))
+
+      written : numberOf (l .answer) ≡ 0 → l .output ≡ m .output
+      written z =
+          let y : numberOf (m .answer) ≡ 0 = omega (arith, same) in
+          ext-getD 0 (l .output) (m .output) (p .filled z ∙ sym (q .filled y)) (λ i h. p .places z i (omega (arith, p .filled z)) ∙ sym (q .places y i (omega (arith, p .filled z))))
+
+  -- ---- the cases, as results
+  list-by : {k : ℕ} → given (listRefusals n op xs ys) ≡ k → listIn f n op xs ys ≡ listBy f op xs ys k
+  unfolding listIn
+  list-by e = ap (listBy f op xs ys) e
+
+  pub unknown-refused : (Known op → ⊥) → listIn f n op xs ys ≡ record { answer = refused 1; output = ys }
+  unfolding listBy
+  unknown-refused u = list-by (given-refusals n op xs ys .one .1 u)
+
+  pub long-refused : Known op → Long n xs ys → listIn f n op xs ys ≡ record { answer = refused 2; output = ys }
+  unfolding listBy
+  long-refused o l = list-by (given-refusals n op xs ys .two .1 (o, l))
+
+  pub list-done : Known op → Short n xs ys → SameLength xs ys → listIn f n op xs ys ≡ record { answer = done 0; output = map (operation f op) xs }
+  unfolding listBy
+  list-done o s e = list-by (given-refusals n op xs ys .none .1 (o, (s, e)))
+
+pub empty-done : (f : Format) (n op : ℕ) → Known op → listIn f n op [] [] ≡ record { answer = done 0; output = [] }
+empty-done f n op o = list-done f n op [] [] o (omega arith) refl

@@ -1,0 +1,72 @@
+-- sqrt: for a finite operand not below zero the exact root, rounded once; and every other row. Assumes nothing.
+use Prim.Native.Nat.{ℕ, zero, suc, _*_, _^_}
+use mathlib.Core.Path.{_≡_, refl, sym, ap, _∙_}
+use mathlib.Core.Bool.{Bool, true, false}
+use native.Mathlib.Omega.{arith}
+use Rattle.ieee.specs.Format.{Format, Fair, low, canonical}
+use Rattle.ieee.specs.Pattern.{Pattern, minus, signed, Kind, nan, infinite, finite, kind}
+use Rattle.ieee.specs.Exact.{surd}
+use Rattle.ieee.specs.Round.{Attribute, ties-to-even, answer}
+use Rattle.ieee.specs.Rule.{to-even, Once}
+use Rattle.ieee.specs.Status.{OK, INVALID}
+use Rattle.ieee.specs.Sqrt.{rootOf, sqrtBy, sqrtIn, sqrtOf, sqrtStatusBy, sqrtStatus}
+use Rattle.ieee.proofs.Patterns.{zero-is}
+use Rattle.ieee.proofs.Exacts.{answer-root-zero}
+use Rattle.ieee.proofs.Answers.{answer-once}
+
+module _ (f : Format) where
+  sqrt-by : (a : Attribute) (x : ℕ) {s : Bool} {k : Kind} → minus f x ≡ s → kind f x ≡ k → sqrtIn f a x ≡ sqrtBy f a x s k
+  unfolding sqrtIn
+  sqrt-by a x e h = λ i. sqrtBy f a x (e i) (h i)
+
+  status-by : (x : ℕ) {s : Bool} {k : Kind} → minus f x ≡ s → kind f x ≡ k → sqrtStatus f x ≡ sqrtStatusBy s k
+  unfolding sqrtStatus
+  status-by x e h = λ i. sqrtStatusBy (e i) (h i)
+
+  -- the answer is the exact root, rounded; a zero keeps its sign
+  pub sqrt-answer : (a : Attribute) (x u : ℕ) → kind f x ≡ finite u → (minus f x ≡ true → u ≡ 0) → sqrtIn f a x ≡ answer f a (minus f x) (rootOf f u)
+  unfolding sqrtBy
+  sqrt-answer a x u h z = go (minus f x) u refl h z
+    where
+      go : (s : Bool) (u : ℕ) → minus f x ≡ s → kind f x ≡ finite u → (s ≡ true → u ≡ 0) → sqrtIn f a x ≡ answer f a s (rootOf f u)
+      go s zero e h z = sqrt-by a x e h
+      go false (suc u) e h z = sqrt-by a x e h
+      go true (suc u) e h z = absurd (omega (arith, z refl))
+
+  -- so it meets the rule for answers
+  pub sqrt-once : Fair f → (x u : ℕ) → kind f x ≡ finite u → (minus f x ≡ true → u ≡ 0) → Once f to-even (minus f x) (rootOf f u) (sqrtOf f x)
+  unfolding sqrtOf
+  sqrt-once g x u h z = rw (sqrt-answer ties-to-even x u h z) (answer-once f g to-even (minus f x) (rootOf f u))
+
+  sqrt-zero : (a : Attribute) (x : ℕ) → Pattern f x → kind f x ≡ finite 0 → sqrtIn f a x ≡ x
+  sqrt-zero a x p h =
+      let e : 0 * 2 ^ low f ≡ 0 = omega arith in
+      sqrt-answer a x 0 h (λ m. refl) ∙ ap (λ n. answer f a (minus f x) (surd n)) e ∙ answer-root-zero f a (minus f x) ∙ zero-is f x p h
+
+  status-zero : (x : ℕ) → kind f x ≡ finite 0 → sqrtStatus f x ≡ OK
+  unfolding sqrtStatusBy
+  status-zero x h = go (minus f x) refl
+    where
+      go : (s : Bool) → minus f x ≡ s → sqrtStatus f x ≡ OK
+      go s e = status-by x e h
+
+-- every other row, under any attribute
+pub record SqrtRows (f : Format) (a : Attribute) : Type 0 where
+  pub of-nan : (x : ℕ) → kind f x ≡ nan → (sqrtIn f a x ≡ canonical f) × (sqrtStatus f x ≡ INVALID)
+  pub of-infinity : (x : ℕ) → kind f x ≡ infinite → minus f x ≡ false → (sqrtIn f a x ≡ x) × (sqrtStatus f x ≡ OK)
+  pub of-minus-infinity : (x : ℕ) → kind f x ≡ infinite → minus f x ≡ true → (sqrtIn f a x ≡ canonical f) × (sqrtStatus f x ≡ INVALID)
+  pub of-zero : (x : ℕ) → Pattern f x → kind f x ≡ finite 0 → (sqrtIn f a x ≡ x) × (sqrtStatus f x ≡ OK)
+  pub of-minus : (x u : ℕ) → kind f x ≡ finite (suc u) → minus f x ≡ true → (sqrtIn f a x ≡ canonical f) × (sqrtStatus f x ≡ INVALID)
+  pub of-plus : (x u : ℕ) → kind f x ≡ finite (suc u) → minus f x ≡ false → sqrtStatus f x ≡ OK
+
+pub sqrt-rows : (f : Format) (a : Attribute) → SqrtRows f a
+unfolding sqrtBy sqrtStatusBy
+sqrt-rows f a =
+    record {
+      of-nan = λ x h. (sqrt-by f a x refl h, status-by f x refl h);
+      of-infinity = λ x h m. (sqrt-by f a x m h, status-by f x m h);
+      of-minus-infinity = λ x h m. (sqrt-by f a x m h, status-by f x m h);
+      of-zero = λ x p h. (sqrt-zero f a x p h, status-zero f x h);
+      of-minus = λ x u h m. (sqrt-by f a x m h, status-by f x m h);
+      of-plus = λ x u h m. status-by f x m h;
+    }

@@ -1,0 +1,200 @@
+-- trunc and floor are exact: each gives the one whole number of ones that its rule names. Assumes nothing.
+use Prim.Native.Nat.{ℕ, zero, suc, _+_, _*_, _/_, _%_, _^_, _≤_, _<_}
+use mathlib.Core.Path.{_≡_, refl, sym, ap, _∙_}
+use mathlib.Core.Bool.{Bool, true, false}
+use native.Mathlib.Nat.{zero-mul, one-mul}
+use native.Mathlib.Omega.{arith}
+use lib.Dec.{lt→ltb, le→leb}
+use lib.Pow.{pow-pos}
+use lib.IntN.{ℤ, pos, negsuc, negℤ, _+ℤ_, _*ℤ_}
+use lib.Signed.{_≤ℤ_, _<ℤ_}
+use borrow.Author.Tests.{eq-eqb, ne-eqb}
+use Rattle.algebra.proofs.Products.{times, mul-lt-cancel}
+use Rattle.algebra.proofs.Quotients.{div-mod, div-is}
+use Rattle.algebra.proofs.Integers.{up, dn, addZ, negZ, eqZ, leZ-fact, ltZ-fact, leZ-of, ltZ-of}
+use Rattle.ieee.specs.Format.{Format, Fair, low, inf, units}
+use Rattle.ieee.specs.Pattern.{Pattern, minus, magnitude, signed, nan, infinite, finite, kind, withSign, value}
+use Rattle.ieee.specs.Round.{longer, Attribute, toward-zero, toward-negative, wayOf}
+use Rattle.ieee.specs.Whole.{whole, wholeIn, truncOf, floorOf, wholeStatus, truncStatus, floorStatus}
+use Rattle.ieee.specs.Status.{OK, INEXACT}
+use Rattle.ieee.proofs.Units.{units-inj}
+use Rattle.ieee.proofs.Decide.{split, eqb-reads}
+use Rattle.ieee.proofs.Patterns.{same-pattern, finite-is, value-is}
+use Rattle.ieee.proofs.WholeParts.{sent-value, wholeIn-sent, wholeIn-none, nan-stays, infinity-stays, zero-stays}
+
+-- r is x cut to a whole number of ones: |k| ≤ |x| < |k| + 1 with the sign kept, and nothing rounded
+pub record Truncated (f : Format) (x r : ℕ) : Type 0 where
+  pub k : ℕ
+  pub pattern : Pattern f r
+  pub finite : magnitude f r < inf f
+  pub counts : units f (magnitude f r) ≡ k * 2 ^ low f
+  pub least : k * 2 ^ low f ≤ units f (magnitude f x)
+  pub most : units f (magnitude f x) < suc k * 2 ^ low f
+  pub sign : minus f r ≡ minus f x
+
+-- r is the greatest whole number of ones not above x: k ≤ x < k + 1
+pub record Floored (f : Format) (x r : ℕ) : Type 0 where
+  pub k : ℤ
+  pub pattern : Pattern f r
+  pub finite : magnitude f r < inf f
+  pub counts : value f r ≡ k *ℤ pos (2 ^ low f)
+  pub least : (k *ℤ pos (2 ^ low f)) ≤ℤ value f x
+  pub most : value f x <ℤ ((k +ℤ pos 1) *ℤ pos (2 ^ low f))
+  pub sign : minus f r ≡ minus f x
+
+-- ---- trunc
+pub trunc-is : (f : Format) → Fair f → (x u : ℕ) → Pattern f x → kind f x ≡ finite u → Truncated f x (truncOf f x)
+unfolding truncOf
+trunc-is f g x u p h =
+    let s = wholeIn-sent f toward-zero g x u h in
+    let d = div-mod (units f (magnitude f x)) (2 ^ low f) (pow-pos (low f)) in
+    record {
+      k = units f (magnitude f x) / 2 ^ low f;
+      pattern = s .pattern;
+      finite = s .finite;
+      counts = s .counts;
+      least = omega arith;
+      most = omega arith;
+      sign = s .sign;
+    }
+
+quotient-only : (n d k l : ℕ) → k * d ≤ n → n < suc k * d → l * d ≤ n → n < suc l * d → k ≡ l
+quotient-only n d k l a b c e =
+    let p = mul-lt-cancel k (suc l) d (omega arith) in
+    let q = mul-lt-cancel l (suc k) d (omega arith) in
+    omega arith
+
+pub trunc-only : (f : Format) (x r q : ℕ) → Truncated f x r → Truncated f x q → r ≡ q
+trunc-only f x r q a b =
+    let k = quotient-only (units f (magnitude f x)) (2 ^ low f) (a .k) (b .k) (a .least) (a .most) (b .least) (b .most) in
+    let u = units-inj f (magnitude f r) (magnitude f q) (a .counts ∙ ap (λ n. n * 2 ^ low f) k ∙ sym (b .counts)) in
+    same-pattern f r q (a .pattern) (b .pattern) (a .sign ∙ sym (b .sign)) u
+
+-- ---- floor: signed numbers, by their magnitudes
+timesZ : (a : ℤ) (d : ℕ) → (up (a *ℤ pos d) ≡ up a * d) × (dn (a *ℤ pos d) ≡ dn a * d)
+timesZ (pos n) d = (refl, omega arith)
+timesZ (negsuc n) d = let (p, q) = negZ (pos (suc n * d)) in (p ∙ omega arith, q)
+
+withSign-times : (s : Bool) (k d : ℕ) → withSign s (k * d) ≡ withSign s k *ℤ pos d
+withSign-times false k d = refl
+withSign-times true zero d = simp zero-mul
+withSign-times true (suc k) d = refl
+
+withSign-only : (s : Bool) (m n : ℕ) → withSign s m ≡ withSign s n → m ≡ n
+withSign-only false m n e = ap up e
+withSign-only true m n e = omega (arith, negZ (pos m), negZ (pos n), ap dn e)
+
+longer-sides : (n d : ℕ) → 0 < d → (n ≤ whole longer n d * d) × (whole longer n d * d < n + d)
+longer-sides n d p =
+    let m = div-mod n d p in
+    split (eqb-reads (n % d) 0)
+    (λ e. rw (eq-eqb (n % d) 0 e) (omega arith, omega arith))
+    (λ e. rw (ne-eqb (n % d) 0 e) (omega arith, omega arith))
+
+-- below zero an order turns round: -k * d ≤ -n < (-k + 1) * d
+minus-least : (n k d : ℕ) → n ≤ k * d → (negℤ (pos k) *ℤ pos d) ≤ℤ negℤ (pos n)
+minus-least n k d h = rw (← withSign-times true k d) (record { le = leZ-of (negℤ (pos (k * d))) (negℤ (pos n)) (omega (arith, negZ (pos (k * d)), negZ (pos n))) })
+
+minus-most : (n k d : ℕ) → k * d < n + d → negℤ (pos n) <ℤ ((negℤ (pos k) +ℤ pos 1) *ℤ pos d)
+minus-most n k d h =
+    let m = negℤ (pos k) +ℤ pos 1 in
+    let (u, v) = negZ (pos k) in
+    record { lt = ltZ-of (negℤ (pos n)) (m *ℤ pos d) (omega (arith, negZ (pos n), timesZ m d, times d (addZ (negℤ (pos k)) (pos 1)), times d u, times d v)) }
+
+-- floor sends a positive number toward zero, and a negative one away from it
+floor-least : (s : Bool) (n d : ℕ) → 0 < d → (withSign s (whole (wayOf toward-negative s) n d) *ℤ pos d) ≤ℤ withSign s n
+floor-least false n d p = record { le = le→leb (n / d * d) n (omega (arith, div-mod n d p)) }
+floor-least true n d p = minus-least n (whole longer n d) d (longer-sides n d p .0)
+
+floor-most : (s : Bool) (n d : ℕ) → 0 < d → withSign s n <ℤ ((withSign s (whole (wayOf toward-negative s) n d) +ℤ pos 1) *ℤ pos d)
+floor-most false n d p = record { lt = lt→ltb n ((n / d + 1) * d) (omega (arith, div-mod n d p)) }
+floor-most true n d p = minus-most n (whole longer n d) d (longer-sides n d p .1)
+
+pub floor-is : (f : Format) → Fair f → (x u : ℕ) → Pattern f x → kind f x ≡ finite u → Floored f x (floorOf f x)
+unfolding floorOf
+floor-is f g x u p h =
+    let s = wholeIn-sent f toward-negative g x u h in
+    let k = whole (wayOf toward-negative (minus f x)) (units f (magnitude f x)) (2 ^ low f) in
+    record {
+      k = withSign (minus f x) k;
+      pattern = s .pattern;
+      finite = s .finite;
+      counts = sent-value f (wayOf toward-negative (minus f x)) x (wholeIn f toward-negative x) s ∙ withSign-times (minus f x) k (2 ^ low f);
+      least = rw (value-is f x) (floor-least (minus f x) (units f (magnitude f x)) (2 ^ low f) (pow-pos (low f)));
+      most = rw (value-is f x) (floor-most (minus f x) (units f (magnitude f x)) (2 ^ low f) (pow-pos (low f)));
+      sign = s .sign;
+    }
+
+-- k ≤ z < l + 1 puts k at most at l
+floor-below : (d : ℕ) (z k l : ℤ) → (k *ℤ pos d) ≤ℤ z → z <ℤ ((l +ℤ pos 1) *ℤ pos d) → up k + dn l ≤ up l + dn k
+floor-below d z k l a b =
+    let m = l +ℤ pos 1 in
+    let h = mul-lt-cancel (up k + dn m) (up m + dn k) d (omega (arith, leZ-fact (k *ℤ pos d) z (a .le), ltZ-fact z (m *ℤ pos d) (b .lt), timesZ k d, timesZ m d)) in
+    omega (arith, addZ l (pos 1))
+
+value-only : (f : Format) (r q : ℕ) → Pattern f r → Pattern f q → minus f r ≡ minus f q → value f r ≡ value f q → r ≡ q
+value-only f r q a b s e =
+    let v = sym (value-is f r) ∙ e ∙ value-is f q ∙ ap (λ t. withSign t (units f (magnitude f q))) (sym s) in
+    let u = withSign-only (minus f r) (units f (magnitude f r)) (units f (magnitude f q)) v in
+    same-pattern f r q a b s (units-inj f (magnitude f r) (magnitude f q) u)
+
+pub floor-only : (f : Format) (x r q : ℕ) → Floored f x r → Floored f x q → r ≡ q
+floor-only f x r q a b =
+    let i = floor-below (2 ^ low f) (value f x) (a .k) (b .k) (a .least) (b .most) in
+    let j = floor-below (2 ^ low f) (value f x) (b .k) (a .k) (b .least) (a .most) in
+    let k = eqZ (a .k) (b .k) (omega arith) in
+    value-only f r q (a .pattern) (b .pattern) (a .sign ∙ sym (b .sign)) (a .counts ∙ ap (λ n. n *ℤ pos (2 ^ low f)) k ∙ sym (b .counts))
+
+-- ---- rows: the operation o with its status s; where x changes, its fraction field says whether that is inexact
+pub record WholeRows (f : Format) (o s : ℕ → ℕ) : Type 0 where
+  pub of-nan : (x : ℕ) → kind f x ≡ nan → (o x ≡ x) × (s x ≡ OK)
+  pub of-infinity : (x : ℕ) → kind f x ≡ infinite → (o x ≡ x) × (s x ≡ OK)
+  pub of-zero : (x : ℕ) → Pattern f x → kind f x ≡ finite 0 → (o x ≡ x) × (s x ≡ OK)
+  pub same : (x : ℕ) → o x ≡ x → s x ≡ OK
+  pub changed : (x : ℕ) → (o x ≡ x → ⊥) → x % 2 ^ f .frac ≡ 0 → s x ≡ OK
+  pub changed-fraction : (x : ℕ) → (o x ≡ x → ⊥) → (x % 2 ^ f .frac ≡ 0 → ⊥) → s x ≡ INEXACT
+
+module _ (f : Format) (a : Attribute) where
+  status-same : (x : ℕ) → wholeIn f a x ≡ x → wholeStatus f x (wholeIn f a x) ≡ OK
+  status-same x e = rw (eq-eqb (wholeIn f a x) x e)
+
+  wholeIn-rows : WholeRows f (wholeIn f a) (λ x. wholeStatus f x (wholeIn f a x))
+  wholeIn-rows =
+      record {
+        of-nan = λ x h. let e = nan-stays f a x h in (e, status-same x e);
+        of-infinity = λ x h. let e = infinity-stays f a x h in (e, status-same x e);
+        of-zero = λ x p h. let e = zero-stays f a x p h in (e, status-same x e);
+        same = status-same;
+        changed = λ x n e. rw (ne-eqb (wholeIn f a x) x n, eq-eqb (x % 2 ^ f .frac) 0 e);
+        changed-fraction = λ x n m. rw (ne-eqb (wholeIn f a x) x n, ne-eqb (x % 2 ^ f .frac) 0 m);
+      }
+
+pub trunc-rows : (f : Format) → WholeRows f (truncOf f) (truncStatus f)
+unfolding truncOf truncStatus
+trunc-rows f = wholeIn-rows f toward-zero
+
+pub floor-rows : (f : Format) → WholeRows f (floorOf f) (floorStatus f)
+unfolding floorOf floorStatus
+floor-rows f = wholeIn-rows f toward-negative
+
+-- ---- floor between -1 and 1
+pub floor-above-zero : (f : Format) (x u : ℕ) → kind f x ≡ finite u → 0 < u → u < 2 ^ low f → minus f x ≡ false → floorOf f x ≡ 0
+unfolding floorOf
+floor-above-zero f x u h p l s =
+    let e = ap (λ t. whole (wayOf toward-negative t) u (2 ^ low f)) s ∙ div-is u (2 ^ low f) 0 u l (omega arith) .0 in
+    wholeIn-none f toward-negative x u h e ∙ ap (λ t. signed f t 0) s
+
+longer-one : (n d : ℕ) → 0 < n → n < d → whole longer n d ≡ 1
+longer-one n d p l =
+    let s = longer-sides n d (omega arith) in
+    let a = mul-lt-cancel 0 (whole longer n d) d (omega arith) in
+    let b = mul-lt-cancel (whole longer n d) 2 d (omega arith) in
+    omega arith
+
+pub floor-below-zero : (f : Format) → Fair f → (x u : ℕ) → kind f x ≡ finite u → 0 < u → u < 2 ^ low f → minus f x ≡ true → value f (floorOf f x) ≡ negℤ (pos (2 ^ low f))
+unfolding floorOf
+floor-below-zero f g x u h p l s =
+    let v = sent-value f (wayOf toward-negative (minus f x)) x (wholeIn f toward-negative x) (wholeIn-sent f toward-negative g x u h) in
+    let e = finite-is f x u h .counts in
+    let o = times (2 ^ low f) (longer-one u (2 ^ low f) p l) ∙ one-mul (2 ^ low f) in
+    v ∙ (λ i. withSign (s i) (whole (wayOf toward-negative (s i)) (e i) (2 ^ low f) * 2 ^ low f)) ∙ ap (λ n. negℤ (pos n)) o

@@ -1,0 +1,47 @@
+-- A binary interchange format of IEEE 754-2019, clause 3.4, and its numbers. Assumes nothing.
+use Prim.Native.Nat.{ℕ, zero, suc, _+_, _-_, _*_, _/_, _%_, _^_, _≤_, _<_}
+
+-- so many fraction bits and exponent bits; the sign is one bit more
+pub record Format : Type 0 where
+  pub frac : ℕ
+  pub expo : ℕ
+
+abbrev pub b32 : Format
+b32 = record { frac = 23; expo = 8 }
+
+abbrev pub b64 : Format
+b64 = record { frac = 52; expo = 11 }
+
+-- the sign bit: a pattern is below twice this, and what is left of a pattern without its sign, its magnitude, is below this
+abbrev pub top : Format → ℕ
+top f = 2 ^ (f .frac + f .expo)
+
+abbrev pub bias : Format → ℕ
+bias f = 2 ^ (f .expo - 1) - 1
+
+-- the smallest unit is 2 ^ -low
+abbrev pub low : Format → ℕ
+low f = bias f + f .frac - 1
+
+-- the pattern of +infinity, which is also how many finite magnitudes there are
+abbrev pub inf : Format → ℕ
+inf f = (2 ^ f .expo - 1) * 2 ^ f .frac
+
+-- the one NaN that answers give: no sign, and of the fraction the first bit alone
+abbrev pub canonical : Format → ℕ
+canonical f = inf f + 2 ^ (f .frac - 1)
+
+-- a magnitude in smallest units, by its exponent field and its fraction t, where h is 2 ^ frac
+abbrev pub fields : ℕ → ℕ → ℕ → ℕ
+fields h zero t = t
+fields h (suc e) t = (h + t) * 2 ^ e
+
+-- a magnitude as a whole number of smallest units; at infinity, what the next number would be
+unfoldable pub units : Format → ℕ → ℕ
+units f m = fields (2 ^ f .frac) (m / 2 ^ f .frac) (m % 2 ^ f .frac)
+
+-- what theorems ask of a format: a fraction, so that infinity's pattern is even; exponents enough for 1 to be a number; and for every whole number of one digit more than the fraction's
+pub record Fair (f : Format) : Type 0 where
+  pub frac-pos : 1 ≤ f .frac
+  pub expo-two : 2 ≤ f .expo
+  pub frac-fits : f .frac < 2 ^ (f .expo - 1)

@@ -1,0 +1,17 @@
+pub mod Format
+pub mod Pattern
+pub mod Exact
+pub mod Round
+pub mod Rule
+pub mod Status
+pub mod Sqrt
+pub mod Fma
+pub mod Scalbn
+pub mod Whole
+pub mod Fmod
+pub mod Remquo
+pub mod Refusal
+pub mod Reduction
+pub mod Lists
+pub mod Numbers
+pub mod Cases

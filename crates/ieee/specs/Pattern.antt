@@ -1,0 +1,41 @@
+-- What a pattern stands for: a sign, and a NaN, an infinity or a whole number of smallest units. Assumes nothing.
+use Prim.Native.Nat.{ℕ, zero, suc, _+_, _*_, _%_, _<_}
+use mathlib.Core.Bool.{Bool, true, false, not, Bool·beq, cond}
+use lib.Dec.{leb, ltb, eqb}
+use lib.IntN.{ℤ, pos, negℤ}
+use Rattle.ieee.specs.Format.{Format, top, inf, units}
+
+abbrev pub Pattern : Format → ℕ → Type 0
+Pattern f x = x < 2 * top f
+
+-- the sign bit is set
+abbrev pub minus : Format → ℕ → Bool
+minus f x = leb (top f) x
+
+abbrev pub magnitude : Format → ℕ → ℕ
+magnitude f x = x % top f
+
+-- a sign and a magnitude, as a pattern
+abbrev pub signed : Format → Bool → ℕ → ℕ
+signed f s m = cond s (top f) 0 + m
+
+-- the signs differ
+abbrev pub unlike : Bool → Bool → Bool
+unlike s t = not (Bool·beq s t)
+
+pub data Kind : Type 0 where
+  nan infinite : Kind
+  finite : ℕ → Kind
+
+unfoldable pub kind : Format → ℕ → Kind
+unfolding units
+kind f x = cond (ltb (inf f) (magnitude f x)) nan (cond (eqb (magnitude f x) (inf f)) infinite (finite (units f (magnitude f x))))
+
+-- a whole number with a sign
+abbrev pub withSign : Bool → ℕ → ℤ
+withSign s n = cond s (negℤ (pos n)) (pos n)
+
+-- the value of a finite pattern, in smallest units
+unfoldable pub value : Format → ℕ → ℤ
+unfolding units
+value f x = withSign (minus f x) (units f (magnitude f x))

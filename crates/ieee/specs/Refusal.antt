@@ -1,0 +1,26 @@
+-- Refusals by number, in order. Assumes nothing.
+use Prim.Native.Nat.{ℕ}
+use mathlib.Core.Bool.{Bool, cond}
+use mathlib.Core.List.{List, [], _∷_}
+
+-- a number, and whether its reason holds
+pub record Refusal : Type 0 where
+  pub number : ℕ
+  pub reason : Bool
+
+-- the number of the first refusal whose reason holds, or 0 where none does
+abbrev pub given : List Refusal → ℕ
+given [] = 0
+given (r ∷ rs) = cond (r .reason) (r .number) (given rs)
+
+-- an answer is a value, or a refusal by its number
+pub data Answer : Type 0 where
+  done refused : ℕ → Answer
+
+abbrev pub numberOf : Answer → ℕ
+numberOf (done v) = 0
+numberOf (refused k) = k
+
+abbrev pub valueOf : Answer → ℕ
+valueOf (done v) = v
+valueOf (refused k) = 0

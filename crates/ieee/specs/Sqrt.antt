@@ -1,0 +1,43 @@
+-- The square root: IEEE 754-2019, squareRoot, clauses 5.4.1, 6.3 and 7.2. Assumes nothing.
+use Prim.Native.Nat.{ℕ, zero, suc, _*_, _^_}
+use mathlib.Core.Bool.{Bool, true, false}
+use Rattle.ieee.specs.Format.{Format, low, canonical}
+use Rattle.ieee.specs.Pattern.{Kind, nan, infinite, finite, kind, minus}
+use Rattle.ieee.specs.Exact.{Value, surd}
+use Rattle.ieee.specs.Round.{Attribute, ties-to-even, answer}
+use Rattle.ieee.specs.Status.{OK, INVALID}
+
+-- the exact root of u units
+abbrev pub rootOf : Format → ℕ → Value
+rootOf f u = surd (u * 2 ^ low f)
+
+-- by the sign and the kind of x
+unfoldable pub sqrtBy : Format → Attribute → ℕ → Bool → Kind → ℕ
+unfolding answer
+sqrtBy f a x s nan = canonical f
+sqrtBy f a x false infinite = x
+sqrtBy f a x true infinite = canonical f
+sqrtBy f a x s (finite zero) = answer f a s (rootOf f 0)
+sqrtBy f a x false (finite (suc u)) = answer f a false (rootOf f (suc u))
+sqrtBy f a x true (finite (suc u)) = canonical f
+
+unfoldable pub sqrtIn : Format → Attribute → ℕ → ℕ
+unfolding sqrtBy kind
+sqrtIn f a x = sqrtBy f a x (minus f x) (kind f x)
+
+unfoldable pub sqrtOf : Format → ℕ → ℕ
+unfolding sqrtIn
+sqrtOf f x = sqrtIn f ties-to-even x
+
+-- INVALID for every NaN and for every number below zero, and OK for all else, exact or not
+unfoldable pub sqrtStatusBy : Bool → Kind → ℕ
+sqrtStatusBy s nan = INVALID
+sqrtStatusBy false infinite = OK
+sqrtStatusBy true infinite = INVALID
+sqrtStatusBy s (finite zero) = OK
+sqrtStatusBy false (finite (suc u)) = OK
+sqrtStatusBy true (finite (suc u)) = INVALID
+
+unfoldable pub sqrtStatus : Format → ℕ → ℕ
+unfolding sqrtStatusBy kind
+sqrtStatus f x = sqrtStatusBy (minus f x) (kind f x)

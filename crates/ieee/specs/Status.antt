@@ -1,0 +1,11 @@
+-- Status numbers: the bits of the crate's flags. Assumes nothing.
+use Prim.Native.Nat.{ℕ}
+
+abbrev pub OK : ℕ
+OK = 0
+
+abbrev pub INVALID : ℕ
+INVALID = 1
+
+abbrev pub INEXACT : ℕ
+INEXACT = 32

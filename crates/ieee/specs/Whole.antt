@@ -1,0 +1,46 @@
+-- Whole numbers: trunc and floor; IEEE 754-2019, clause 5.9; ISO C, F.10.6. Assumes nothing.
+use Prim.Native.Nat.{ℕ, zero, suc, _+_, _*_, _/_, _%_, _^_}
+use mathlib.Core.Bool.{Bool, not, _&&_, _||_, cond}
+use lib.Dec.{leb, ltb, eqb}
+use Rattle.ieee.specs.Format.{Format, low}
+use Rattle.ieee.specs.Pattern.{Kind, nan, infinite, finite, kind, minus, magnitude, signed}
+use Rattle.ieee.specs.Round.{Way, even, away, shorter, longer, Attribute, toward-zero, toward-negative, wayOf, rounded, exactly}
+use Rattle.ieee.specs.Status.{OK, INEXACT}
+
+-- n / d as a whole number, the way w
+abbrev pub whole : Way → ℕ → ℕ → ℕ
+whole even n d = n / d + cond (ltb d (2 * (n % d)) || (eqb (2 * (n % d)) d && eqb (n / d % 2) 1)) 1 0
+whole away n d = n / d + cond (leb d (2 * (n % d))) 1 0
+whole shorter n d = n / d
+whole longer n d = n / d + cond (eqb (n % d) 0) 0 1
+
+-- x with its magnitude sent the way w to a whole number; infinities and NaNs stay
+unfoldable pub wholeBy : Format → Way → ℕ → Kind → ℕ
+unfolding rounded
+wholeBy f w x nan = x
+wholeBy f w x infinite = x
+wholeBy f w x (finite u) = signed f (minus f x) (exactly f (whole w u (2 ^ low f) * 2 ^ low f))
+
+unfoldable pub wholeIn : Format → Attribute → ℕ → ℕ
+unfolding wholeBy kind
+wholeIn f a x = wholeBy f (wayOf a (minus f x)) x (kind f x)
+
+unfoldable pub truncOf : Format → ℕ → ℕ
+unfolding wholeIn
+truncOf f x = wholeIn f toward-zero x
+
+unfoldable pub floorOf : Format → ℕ → ℕ
+unfolding wholeIn
+floorOf f x = wholeIn f toward-negative x
+
+-- the status of the answer r to x: where the value changed, INEXACT if the fraction field is not zero
+abbrev pub wholeStatus : Format → ℕ → ℕ → ℕ
+wholeStatus f x r = cond (not (eqb r x) && not (eqb (x % 2 ^ f .frac) 0)) INEXACT OK
+
+unfoldable pub truncStatus : Format → ℕ → ℕ
+unfolding truncOf
+truncStatus f x = wholeStatus f x (truncOf f x)
+
+unfoldable pub floorStatus : Format → ℕ → ℕ
+unfolding floorOf
+floorStatus f x = wholeStatus f x (floorOf f x)

@@ -1,0 +1,1 @@
+// What is right: definitions and their theorems, and no function.
