@@ -22,6 +22,10 @@ pub mod Fmas
 pub mod Scalbns
 pub mod WholeParts
 pub mod Wholes
+pub mod Refusals
+pub mod Reductions
+pub mod ListCalls
 pub mod Formats
 pub mod Settled
 pub mod Cases
+pub mod Lazy

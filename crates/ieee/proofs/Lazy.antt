@@ -1,0 +1,60 @@
+-- Lazy answers, each at an input where the definitions say otherwise. Assumes nothing.
+use Prim.Native.Nat.{ℕ}
+use mathlib.Core.Path.{_≡_, refl, sym, ap, _∙_}
+use mathlib.Core.List.{List, [], _∷_}
+use native.Mathlib.Omega.{arith}
+use lib.IntN.{pos, natAbs}
+use lib.ListN.{getD}
+use Rattle.ieee.specs.Format.{b64, canonical}
+use Rattle.ieee.specs.Sqrt.{sqrtOf}
+use Rattle.ieee.specs.Fma.{fmaOf}
+use Rattle.ieee.specs.Scalbn.{scalbnOf}
+use Rattle.ieee.specs.Whole.{floorOf, truncOf}
+use Rattle.ieee.specs.Fmod.{fmodOf}
+use Rattle.ieee.specs.Remquo.{remquoOf, quotientOf}
+use Rattle.ieee.specs.Refusal.{numberOf}
+use Rattle.ieee.specs.Reduction.{reduceOf}
+use Rattle.ieee.specs.Lists.{listOf}
+
+-- the patterns of 1 and 4
+abbrev one : ℕ
+one = 0x3ff0000000000000
+
+abbrev four : ℕ
+four = 0x4010000000000000
+
+pub record Lazy : Type 0 where
+  -- the canonical NaN to everything
+  pub sqrt-nan : sqrtOf b64 one ≡ canonical b64 → ⊥
+  pub fma-nan : fmaOf b64 one one one ≡ canonical b64 → ⊥
+  pub fmod-nan : fmodOf b64 one one ≡ canonical b64 → ⊥
+  pub remquo-nan : remquoOf b64 one one ≡ canonical b64 → ⊥
+  pub scalbn-nan : scalbnOf b64 one (pos 0) ≡ canonical b64 → ⊥
+  pub floor-nan : floorOf b64 one ≡ canonical b64 → ⊥
+  pub trunc-nan : truncOf b64 one ≡ canonical b64 → ⊥
+  -- the quotient always zero
+  pub quotient-zero : quotientOf b64 one one ≡ pos 0 → ⊥
+  -- every list refused, and every reduction
+  pub list-refused : numberOf (listOf b64 1 [] [] .answer) ≡ 0
+  pub reduction-refused : numberOf (reduceOf 64 1 0 1) ≡ 0
+  -- the output untouched, and the first place alone filled
+  pub list-untouched : listOf b64 1 (four ∷ []) (0 ∷ []) .output ≡ 0 ∷ [] → ⊥
+  pub list-first-alone : (r : ℕ) → listOf b64 1 (four ∷ four ∷ []) (0 ∷ 0 ∷ []) .output ≡ r ∷ 0 ∷ [] → ⊥
+
+pub lazy : Lazy
+unfolding sqrtOf fmaOf fmodOf remquoOf quotientOf scalbnOf floorOf truncOf listOf reduceOf
+lazy =
+    record {
+      sqrt-nan = λ e. omega (arith, e);
+      fma-nan = λ e. omega (arith, e);
+      fmod-nan = λ e. omega (arith, e);
+      remquo-nan = λ e. omega (arith, e);
+      scalbn-nan = λ e. omega (arith, e);
+      floor-nan = λ e. omega (arith, e);
+      trunc-nan = λ e. omega (arith, e);
+      quotient-zero = λ e. let z = ap natAbs e in omega (arith, z);
+      list-refused = refl;
+      reduction-refused = refl;
+      list-untouched = λ e. let z = ap (λ l. getD l 0 0) e in omega (arith, z);
+      list-first-alone = λ r e. let z = ap (λ l. getD l 1 0) e in omega (arith, z);
+    }

@@ -1,0 +1,210 @@
+-- remquo is exact: what is left of x by the nearest whole multiple of y, nothing rounded, and nothing else is. Assumes nothing.
+use Prim.Native.Nat.{ℕ, suc, _-_, _*_, _%_, _^_, _≤_, _<_}
+use mathlib.Core.Path.{_≡_, refl, sym, ap, _∙_, subst}
+use mathlib.Core.Bool.{Bool, true, false, not, cond}
+use native.Mathlib.Omega.{arith}
+use lib.Dec.{ltb}
+use lib.IntN.{ℤ, pos, _+ℤ_, _*ℤ_}
+use borrow.Author.Tests.{ltb-true, ltb-false}
+use Rattle.algebra.proofs.Products.{order}
+use Rattle.ieee.specs.Format.{Format, Fair, inf, canonical, units}
+use Rattle.ieee.specs.Pattern.{Pattern, minus, magnitude, signed, unlike, Kind, nan, infinite, finite, kind, withSign, value}
+use Rattle.ieee.specs.Rule.{distance}
+use Rattle.ieee.specs.Round.{even, exactly}
+use Rattle.ieee.specs.Whole.{whole}
+use Rattle.ieee.specs.Remquo.{rest, remquoBy, remquoOf, quotientBy, quotientOf}
+use Rattle.ieee.proofs.Units.{units-lt, units-zero, units-inj}
+use Rattle.ieee.proofs.Patterns.{same-pattern, Finite, finite-is}
+use Rattle.ieee.proofs.Signs.{signed-zero}
+use Rattle.ieee.proofs.SignedSums.{unlike-self, unlike-not, Splits, Remains, remains-splits, remains-distance, same-sign}
+use Rattle.ieee.proofs.NearestWhole.{NearestTo, whole-even-nearest, nearest-unique, nearest-within}
+use Rattle.ieee.proofs.Remainders.{Stands, difference-stands}
+
+-- x = n y + r with 2|r| ≤ |y|, and n even where they are equal; a zero has the sign of x; the quotient is n modulo 2 ^ 31, with the sign of n
+pub record Nearest-left (f : Format) (x y r : ℕ) (q : ℤ) : Type 0 where
+  -- n without its sign, which is minus where the signs of x and y differ
+  pub n : ℕ
+  pub pattern : Pattern f r
+  pub finite : magnitude f r < inf f
+  pub counts : value f x ≡ withSign (unlike (minus f x) (minus f y)) n *ℤ value f y +ℤ value f r
+  pub half : 2 * units f (magnitude f r) ≤ units f (magnitude f y)
+  pub tie : 2 * units f (magnitude f r) ≡ units f (magnitude f y) → n % 2 ≡ 0
+  pub zero-sign : magnitude f r ≡ 0 → minus f r ≡ minus f x
+  pub quotient : q ≡ withSign (unlike (minus f x) (minus f y)) (n % 2 ^ 31)
+
+-- r is u less w, with the sign s where u is not less
+record Rest (f : Format) (s : Bool) (u w r : ℕ) : Type 0 where
+  pattern : Pattern f r
+  finite : magnitude f r < inf f
+  splits : Splits (unlike s (minus f r)) u w (units f (magnitude f r))
+  zero-sign : magnitude f r ≡ 0 → minus f r ≡ s
+
+stands-rest : (f : Format) (s p : Bool) (u w r q : ℕ) → Stands f p r q → Splits (unlike s p) u w r → (r ≡ 0 → p ≡ s) → Rest f s u w q
+stands-rest f s p u w r q a h z =
+    record {
+      pattern = a .pattern;
+      finite = a .finite;
+      splits = rw (a .sign, a .counts) h;
+      zero-sign = λ e. a .sign ∙ z (sym (a .counts) ∙ ap (units f) e ∙ units-zero f);
+    }
+
+rest-is : (f : Format) (s : Bool) (m k n : ℕ) → m < inf f → NearestTo (units f m) (units f k) n → Rest f s (units f m) (n * units f k) (rest f s (units f m) (n * units f k))
+rest-is f s m k n l a = go (ltb u w) refl
+  where
+    u : ℕ
+    u = units f m
+
+    w : ℕ
+    w = n * units f k
+
+    stands : (p : Bool) (r : ℕ) → r ≡ distance u w → Stands f p r (signed f p (exactly f r))
+    stands p r e = difference-stands f p m k n r l e (omega (arith, nearest-within u (units f k) n a)) (omega (arith, a .half))
+
+    go : (b : Bool) → ltb u w ≡ b → Rest f s u w (cond b (signed f (not s) (exactly f (w - u))) (signed f s (exactly f (u - w))))
+    go true e =
+        let h : u < w = ltb-true u w e in
+        stands-rest f s (not s) u w (w - u) (signed f (not s) (exactly f (w - u))) (stands (not s) (w - u) (omega arith)) (rw (unlike-not s) (omega arith)) (λ z. absurd (omega arith))
+    go false e =
+        let h : w ≤ u = ltb-false u w e in
+        stands-rest f s s u w (u - w) (signed f s (exactly f (u - w))) (stands s (u - w) (omega arith)) (rw (unlike-self s) (omega arith)) (λ z. refl)
+
+-- ---- remquo
+remquo-finite : (f : Format) (x y u v : ℕ) → kind f x ≡ finite u → kind f y ≡ finite (suc v) → remquoOf f x y ≡ rest f (minus f x) u (whole even u (suc v) * suc v)
+unfolding remquoOf remquoBy
+remquo-finite f x y u v p q = rw (p, q)
+
+quotient-finite : (f : Format) (x y u v : ℕ) → kind f x ≡ finite u → kind f y ≡ finite (suc v) → quotientOf f x y ≡ withSign (unlike (minus f x) (minus f y)) (whole even u (suc v) % 2 ^ 31)
+unfolding quotientOf quotientBy
+quotient-finite f x y u v p q = rw (p, q)
+
+pub remquo-is : (f : Format) → Fair f → (x y u v : ℕ) → Pattern f x → kind f x ≡ finite u → kind f y ≡ finite (suc v) → Nearest-left f x y (remquoOf f x y) (quotientOf f x y)
+remquo-is f g x y u v p e k =
+    record {
+      n = n;
+      pattern = r .pattern;
+      finite = r .finite;
+      counts = c;
+      half = omega (arith, d, near .half);
+      tie = λ h. near .tie (omega (arith, d));
+      zero-sign = r .zero-sign;
+      quotient = quotient-finite f x y u v e k;
+    }
+  where
+    n : ℕ
+    n = whole even u (suc v)
+
+    a : Finite f x u
+    a = finite-is f x u e
+
+    b : units f (magnitude f y) ≡ suc v
+    b = finite-is f y (suc v) k .counts
+
+    near : NearestTo (units f (magnitude f x)) (units f (magnitude f y)) n
+    near = rw (a .counts, b) (whole-even-nearest u (suc v) (omega arith))
+
+    r : Rest f (minus f x) (units f (magnitude f x)) (n * units f (magnitude f y)) (remquoOf f x y)
+    r =
+        subst (Rest f (minus f x) (units f (magnitude f x)) (n * units f (magnitude f y)))
+        ((λ i. rest f (minus f x) (a .counts i) (n * b i)) ∙ sym (remquo-finite f x y u v e k))
+        (rest-is f (minus f x) (magnitude f x) (magnitude f y) n (a .below) near)
+
+    c : Remains f x y (remquoOf f x y) n
+    c = remains-splits f x y (remquoOf f x y) n .1 (r .splits)
+
+    d : distance (units f (magnitude f x)) (n * units f (magnitude f y)) ≡ units f (magnitude f (remquoOf f x y))
+    d = remains-distance f x y (remquoOf f x y) n c
+
+-- from the integers back to whole numbers
+left-nearest : (f : Format) (x y r : ℕ) (q : ℤ) → (a : Nearest-left f x y r q) → NearestTo (units f (magnitude f x)) (units f (magnitude f y)) (a .n)
+left-nearest f x y r q a =
+    let d = remains-distance f x y r (a .n) (a .counts) in
+    record { half = omega (arith, a .half); tie = λ h. a .tie (omega arith) }
+
+pub remquo-only : (f : Format) (x y r r′ : ℕ) (q q′ : ℤ) → 0 < units f (magnitude f y) → Nearest-left f x y r q → Nearest-left f x y r′ q′ → (r ≡ r′) × (q ≡ q′)
+remquo-only f x y r r′ q q′ l a b = (
+  same-pattern f r r′ (a .pattern) (b .pattern) signs magnitudes,
+  a .quotient ∙ ap (λ n. withSign (unlike (minus f x) (minus f y)) (n % 2 ^ 31)) counted ∙ sym (b .quotient),
+)
+  where
+    u : ℕ
+    u = units f (magnitude f x)
+
+    v : ℕ
+    v = units f (magnitude f y)
+
+    counted : a .n ≡ b .n
+    counted = nearest-unique u v (a .n) (b .n) l (left-nearest f x y r q a) (left-nearest f x y r′ q′ b)
+
+    lefts : units f (magnitude f r) ≡ units f (magnitude f r′)
+    lefts = sym (remains-distance f x y r (a .n) (a .counts)) ∙ ap (λ n. distance u (n * v)) counted ∙ remains-distance f x y r′ (b .n) (b .counts)
+
+    magnitudes : magnitude f r ≡ magnitude f r′
+    magnitudes = units-inj f (magnitude f r) (magnitude f r′) lefts
+
+    signs : minus f r ≡ minus f r′
+    signs =
+        order (magnitude f r) 0
+        (λ h. a .zero-sign (omega arith) ∙ sym (b .zero-sign (omega (arith, magnitudes))))
+        (λ h. same-sign (minus f x) (minus f r) (minus f r′) u (a .n * v) (units f (magnitude f r)) (omega (arith, units-lt f h))
+        (remains-splits f x y r (a .n) .0 (a .counts))
+        (rw (counted, lefts) (remains-splits f x y r′ (b .n) .0 (b .counts))))
+
+-- ---- the rows of remquo: NaNs, infinities and zeros
+abbrev pub Answer : Format → ℕ → ℕ → ℕ → ℤ → Type 0
+Answer f x y r q = (remquoOf f x y ≡ r) × (quotientOf f x y ≡ q)
+
+pub record RemquoRows (f : Format) : Type 0 where
+  pub nan-x : (x y : ℕ) → kind f x ≡ nan → Answer f x y (canonical f) (pos 0)
+  pub infinite-x : (x y : ℕ) → kind f x ≡ infinite → Answer f x y (canonical f) (pos 0)
+  pub nan-y : (x y : ℕ) → kind f y ≡ nan → Answer f x y (canonical f) (pos 0)
+  pub zero-y : (x y : ℕ) → kind f y ≡ finite 0 → Answer f x y (canonical f) (pos 0)
+  pub infinite-y : (x y u : ℕ) → kind f x ≡ finite u → kind f y ≡ infinite → Answer f x y x (pos 0)
+  pub below-half-y : (x y u v : ℕ) → Pattern f x → kind f x ≡ finite u → kind f y ≡ finite (suc v) → 2 * u ≤ suc v → Answer f x y x (pos 0)
+  pub zero-x : (x y v : ℕ) → Pattern f x → kind f x ≡ finite 0 → kind f y ≡ finite (suc v) → Answer f x y x (pos 0)
+  pub zero-left : (x y u v : ℕ) → Pattern f x → kind f x ≡ finite u → kind f y ≡ finite (suc v) → magnitude f (remquoOf f x y) ≡ 0 → minus f (remquoOf f x y) ≡ minus f x
+  pub zero-quotient : (x y u v : ℕ) → kind f x ≡ finite u → kind f y ≡ finite (suc v) → whole even u (suc v) % 2 ^ 31 ≡ 0 → quotientOf f x y ≡ pos 0
+
+below-left : (f : Format) (x y u v : ℕ) → Pattern f x → kind f x ≡ finite u → kind f y ≡ finite (suc v) → 2 * u ≤ suc v → Nearest-left f x y x (pos 0)
+below-left f x y u v p e k l =
+    let a : Finite f x u = finite-is f x u e in
+    record {
+      n = 0;
+      pattern = p;
+      finite = a .below;
+      counts = remains-splits f x y x 0 .1 (rw (unlike-self (minus f x)) (omega arith));
+      half = omega (arith, a .counts, finite-is f y (suc v) k .counts);
+      tie = λ h. refl;
+      zero-sign = λ h. refl;
+      quotient = sym (signed-zero (unlike (minus f x) (minus f y)));
+    }
+
+remquo-below : (f : Format) → Fair f → (x y u v : ℕ) → Pattern f x → kind f x ≡ finite u → kind f y ≡ finite (suc v) → 2 * u ≤ suc v → Answer f x y x (pos 0)
+remquo-below f g x y u v p e k l =
+    remquo-only f x y (remquoOf f x y) x (quotientOf f x y) (pos 0) (omega (arith, finite-is f y (suc v) k .counts)) (remquo-is f g x y u v p e k) (below-left f x y u v p e k l)
+
+by-nan : (f : Format) (x : ℕ) (s t : Bool) (k : Kind) → (remquoBy f x k nan ≡ canonical f) × (quotientBy s t k nan ≡ pos 0)
+unfolding remquoBy quotientBy
+by-nan f x s t nan = (refl, refl)
+by-nan f x s t infinite = (refl, refl)
+by-nan f x s t (finite u) = (refl, refl)
+
+by-zero : (f : Format) (x : ℕ) (s t : Bool) (k : Kind) → (remquoBy f x k (finite 0) ≡ canonical f) × (quotientBy s t k (finite 0) ≡ pos 0)
+unfolding remquoBy quotientBy
+by-zero f x s t nan = (refl, refl)
+by-zero f x s t infinite = (refl, refl)
+by-zero f x s t (finite u) = (refl, refl)
+
+pub remquo-rows : (f : Format) → Fair f → RemquoRows f
+unfolding remquoOf remquoBy quotientOf quotientBy
+remquo-rows f g =
+    record {
+      nan-x = λ x y e. rw e (refl, refl);
+      infinite-x = λ x y e. rw e (refl, refl);
+      nan-y = λ x y e. rw e (by-nan f x (minus f x) (minus f y) (kind f x));
+      zero-y = λ x y e. rw e (by-zero f x (minus f x) (minus f y) (kind f x));
+      infinite-y = λ x y u e k. rw (e, k) (refl, refl);
+      below-half-y = remquo-below f g;
+      zero-x = λ x y v p e k. remquo-below f g x y 0 v p e k (omega arith);
+      zero-left = λ x y u v p e k z. remquo-is f g x y u v p e k .zero-sign z;
+      zero-quotient = λ x y u v e k z. quotient-finite f x y u v e k ∙ ap (withSign (unlike (minus f x) (minus f y))) z ∙ signed-zero (unlike (minus f x) (minus f y));
+    }
