@@ -4,7 +4,7 @@ use mathlib.Core.Path.{_≡_, refl, sym, ap, _∙_}
 use mathlib.Core.Bool.{Bool, true, false, not, cond, Bool·beq}
 use native.Mathlib.Omega.{arith}
 use lib.Pow.{pow-pos}
-use lib.IntN.{ℤ, pos, negsuc, negℤ, _+ℤ_, _*ℤ_, pos-*ℤ-pos, pos-*ℤ-negsuc, negsuc-*ℤ-pos, negsuc-*ℤ-negsuc, zero-*ℤ, *ℤ-zero, +ℤ-idl}
+use lib.IntN.{ℤ, pos, negℤ, _+ℤ_, _*ℤ_, +ℤ-idl}
 use Rattle.algebra.proofs.Products.{times as multiplied}
 use Rattle.algebra.proofs.Integers.{addZ, negZ, eqZ-fact}
 use Rattle.ieee.specs.Format.{Format, Fair, low, inf, units, canonical}
@@ -14,20 +14,9 @@ use Rattle.ieee.specs.Round.{Attribute, ties-to-even, answer}
 use Rattle.ieee.specs.Rule.{to-even, Once}
 use Rattle.ieee.specs.Fma.{times, sumOf, zeroSum, plusBy, fmaIn, fmaOf, exactFma, zeroSign}
 use Rattle.ieee.proofs.Patterns.{value-is, finite-is, infinity-is, signed-is}
-use Rattle.ieee.proofs.Signs.{signed-times, signed-zero}
+use Rattle.ieee.proofs.Signs.{signed-times, signed-product, signed-zero}
 use Rattle.ieee.proofs.Exacts.{answer-zero, sign-given, answer-held}
 use Rattle.ieee.proofs.Answers.{answer-once}
-
--- the product of whole numbers with signs
-signed-product : (s t : Bool) (u v : ℕ) → withSign s u *ℤ withSign t v ≡ withSign (unlike s t) (u * v)
-signed-product false false u v = pos-*ℤ-pos u v
-signed-product false true u zero = *ℤ-zero (pos u) ∙ ap (λ n. negℤ (pos n)) {x = 0} {y = u * 0} (omega arith)
-signed-product false true u (suc v) = pos-*ℤ-negsuc u v
-signed-product true false u v = signed-times true u v
-signed-product true true zero zero = refl
-signed-product true true zero (suc v) = zero-*ℤ (negsuc v) ∙ ap pos {x = 0} {y = 0 * suc v} (omega arith)
-signed-product true true (suc u) zero = *ℤ-zero (negsuc u) ∙ ap pos {x = 0} {y = suc u * 0} (omega arith)
-signed-product true true (suc u) (suc v) = negsuc-*ℤ-negsuc u v
 
 module _ (f : Format) where
   fma-by : (a : Attribute) (x y z : ℕ) {k l h : Kind} → kind f x ≡ k → kind f y ≡ l → kind f z ≡ h
@@ -152,4 +141,21 @@ fma-rows f a x y z =
       zero-product = λ u v w b p q n r. z-alone f a x y z u v w b p q n r;
       zeros = λ u v p q n r. fma-zero f a x y z u v 0 p q r (zeros-add f x y z u v p q n r);
       zero-sum = λ u v w p q r l e. fma-zero f a x y z u v w p q r e ∙ ap (λ b. signed f (cond b (zeroSum a) (unlike (minus f x) (minus f y))) 0) (cancelled f x y z u v w p q r l e);
+    }
+
+-- zeros to the nearest even: like signs keep theirs, unlike signs give +0, and so does a sum of terms that are not zero
+pub record FmaZeros (f : Format) (x y z : ℕ) : Type 0 where
+  pub like : (u v : ℕ) → kind f x ≡ finite u → kind f y ≡ finite v → u * v ≡ 0 → kind f z ≡ finite 0 → unlike (unlike (minus f x) (minus f y)) (minus f z) ≡ false → fmaOf f x y z ≡ signed f (unlike (minus f x) (minus f y)) 0
+  pub opposite : (u v : ℕ) → kind f x ≡ finite u → kind f y ≡ finite v → u * v ≡ 0 → kind f z ≡ finite 0 → unlike (unlike (minus f x) (minus f y)) (minus f z) ≡ true → fmaOf f x y z ≡ 0
+  pub cancelled : (u v w : ℕ) → kind f x ≡ finite u → kind f y ≡ finite v → kind f z ≡ finite w → 0 < u * v → value f x *ℤ value f y +ℤ value f z *ℤ pos (2 ^ low f) ≡ pos 0 → fmaOf f x y z ≡ 0
+
+pub fma-zeros : (f : Format) (x y z : ℕ) → FmaZeros f x y z
+unfolding fmaOf
+fma-zeros f x y z =
+    let rows = fma-rows f ties-to-even x y z in
+    let sign : Bool → ℕ = λ b. signed f (cond b false (unlike (minus f x) (minus f y))) 0 in
+    record {
+      like = λ u v p q n r e. rows .zeros u v p q n r ∙ ap sign e;
+      opposite = λ u v p q n r e. rows .zeros u v p q n r ∙ ap sign e;
+      cancelled = λ u v w p q r l e. rows .zero-sum u v w p q r l e;
     }

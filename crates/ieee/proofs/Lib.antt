@@ -22,6 +22,10 @@ pub mod Fmas
 pub mod Scalbns
 pub mod WholeParts
 pub mod Wholes
+pub mod NearestWhole
+pub mod SignedSums
+pub mod Remainders
+pub mod Remquos
 pub mod Refusals
 pub mod Reductions
 pub mod ListCalls

@@ -12,7 +12,7 @@ use Rattle.ieee.specs.Format.{Format}
 use Rattle.ieee.specs.Sqrt.{sqrtOf}
 use Rattle.ieee.specs.Whole.{floorOf, truncOf}
 use Rattle.ieee.specs.Refusal.{given, done, refused, numberOf, valueOf}
-use Rattle.ieee.specs.Lists.{operation, listRefusals, Listed, listBy, listIn}
+use Rattle.ieee.specs.Lists.{operation, listRefusals, Listed, listBy, listIn, listOf}
 use Rattle.ieee.proofs.Decide.{Reads, so, not-so, split, leb-reads, eqb-reads, and-reads}
 use Rattle.ieee.proofs.Refusals.{given-first, given-none, first-here, first-later, none-later, none-last, Tells, by-reads, ltb-tells, not-tells, or-tells, either, same-at}
 
@@ -171,3 +171,12 @@ module _ (f : Format) (n op : ℕ) (xs ys : List ℕ) where
 
 pub empty-done : (f : Format) (n op : ℕ) → Known op → listIn f n op [] [] ≡ record { answer = done 0; output = [] }
 empty-done f n op o = list-done f n op [] [] o (omega arith) refl
+
+-- ---- at the limit
+pub places-8192-done : (f : Format) (op : ℕ) (xs ys : List ℕ) → Known op → length xs ≡ 8192 → length ys ≡ 8192 → listOf f op xs ys ≡ record { answer = done 0; output = map (operation f op) xs }
+unfolding listOf
+places-8192-done f op xs ys o p q = list-done f 8192 op xs ys o (omega arith) (p ∙ sym q)
+
+pub places-8193-refused : (f : Format) (op : ℕ) (xs ys : List ℕ) → Known op → length xs ≡ 8193 → listOf f op xs ys ≡ record { answer = refused 2; output = ys }
+unfolding listOf
+places-8193-refused f op xs ys o p = long-refused f 8192 op xs ys o (inl (omega arith))

@@ -8,7 +8,7 @@ use lib.Pow.{pow-pos}
 use Rattle.algebra.proofs.Products.{order, times, times-le, diff, mul-le-cancel}
 use Rattle.algebra.proofs.Quotients.{div-mod, quot-unique}
 use Rattle.algebra.proofs.Powers.{pow-diff}
-use Rattle.ieee.specs.Format.{Format, Fair, top, inf, canonical, fields, units}
+use Rattle.ieee.specs.Format.{Format, top, inf, canonical, fields, units}
 use Rattle.ieee.specs.Pattern.{Pattern, minus, magnitude, signed, Kind, nan, infinite, finite, kind}
 use Rattle.ieee.specs.Rule.{distance}
 use Rattle.ieee.specs.Round.{even, exactly}
@@ -105,8 +105,8 @@ fmod-finite : (f : Format) (x y u v : ℕ) → kind f x ≡ finite u → kind f 
 unfolding fmodOf fmodBy
 fmod-finite f x y u v p q = rw (p, q)
 
-pub fmod-is : (f : Format) → Fair f → (x y u v : ℕ) → Pattern f x → kind f x ≡ finite u → kind f y ≡ finite (suc v) → Left f x y (fmodOf f x y)
-fmod-is f g x y u v p e k =
+pub fmod-is : (f : Format) (x y u v : ℕ) → kind f x ≡ finite u → kind f y ≡ finite (suc v) → Left f x y (fmodOf f x y)
+fmod-is f x y u v e k =
     record {
       n = n;
       pattern = w .pattern;
@@ -148,16 +148,16 @@ pub record FmodRows (f : Format) : Type 0 where
   pub infinite-y : (x y u : ℕ) → kind f x ≡ finite u → kind f y ≡ infinite → fmodOf f x y ≡ x
   pub below-y : (x y u v : ℕ) → Pattern f x → kind f x ≡ finite u → kind f y ≡ finite v → u < v → fmodOf f x y ≡ x
   pub zero-x : (x y v : ℕ) → Pattern f x → kind f x ≡ finite 0 → kind f y ≡ finite (suc v) → fmodOf f x y ≡ x
-  pub zero-left : (x y u v : ℕ) → Pattern f x → kind f x ≡ finite u → kind f y ≡ finite (suc v) → magnitude f (fmodOf f x y) ≡ 0 → minus f (fmodOf f x y) ≡ minus f x
+  pub zero-left : (x y u v : ℕ) → kind f x ≡ finite u → kind f y ≡ finite (suc v) → magnitude f (fmodOf f x y) ≡ 0 → minus f (fmodOf f x y) ≡ minus f x
 
 below-left : (f : Format) (x y u v : ℕ) → Pattern f x → kind f x ≡ finite u → kind f y ≡ finite v → u < v → Left f x y x
 below-left f x y u v p e k l =
     let a : Finite f x u = finite-is f x u e in
     record { n = 0; pattern = p; finite = a .below; counts = omega arith; small = omega (arith, a .counts, finite-is f y v k .counts); sign = refl }
 
-fmod-below : (f : Format) → Fair f → (x y u v : ℕ) → Pattern f x → kind f x ≡ finite u → kind f y ≡ finite v → u < v → fmodOf f x y ≡ x
-fmod-below f g x y u zero p e k l = absurd (omega arith)
-fmod-below f g x y u (suc v) p e k l = fmod-only f x y (fmodOf f x y) x (fmod-is f g x y u v p e k) (below-left f x y u (suc v) p e k l)
+fmod-below : (f : Format) (x y u v : ℕ) → Pattern f x → kind f x ≡ finite u → kind f y ≡ finite v → u < v → fmodOf f x y ≡ x
+fmod-below f x y u zero p e k l = absurd (omega arith)
+fmod-below f x y u (suc v) p e k l = fmod-only f x y (fmodOf f x y) x (fmod-is f x y u v e k) (below-left f x y u (suc v) p e k l)
 
 by-nan : (f : Format) (x : ℕ) (k : Kind) → fmodBy f x k nan ≡ canonical f
 unfolding fmodBy
@@ -171,16 +171,16 @@ by-zero f x nan = refl
 by-zero f x infinite = refl
 by-zero f x (finite u) = refl
 
-pub fmod-rows : (f : Format) → Fair f → FmodRows f
+pub fmod-rows : (f : Format) → FmodRows f
 unfolding fmodOf fmodBy
-fmod-rows f g =
+fmod-rows f =
     record {
       nan-x = λ x y e. rw e;
       infinite-x = λ x y e. rw e;
       nan-y = λ x y e. rw e (by-nan f x (kind f x));
       zero-y = λ x y e. rw e (by-zero f x (kind f x));
       infinite-y = λ x y u e k. rw (e, k);
-      below-y = fmod-below f g;
-      zero-x = λ x y v p e k. fmod-below f g x y 0 (suc v) p e k (omega arith);
-      zero-left = λ x y u v p e k z. fmod-is f g x y u v p e k .sign;
+      below-y = fmod-below f;
+      zero-x = λ x y v p e k. fmod-below f x y 0 (suc v) p e k (omega arith);
+      zero-left = λ x y u v e k z. fmod-is f x y u v e k .sign;
     }

@@ -7,7 +7,7 @@ use lib.Dec.{ltb}
 use lib.IntN.{ℤ, pos, _+ℤ_, _*ℤ_}
 use borrow.Author.Tests.{ltb-true, ltb-false}
 use Rattle.algebra.proofs.Products.{order}
-use Rattle.ieee.specs.Format.{Format, Fair, inf, canonical, units}
+use Rattle.ieee.specs.Format.{Format, inf, canonical, units}
 use Rattle.ieee.specs.Pattern.{Pattern, minus, magnitude, signed, unlike, Kind, nan, infinite, finite, kind, withSign, value}
 use Rattle.ieee.specs.Rule.{distance}
 use Rattle.ieee.specs.Round.{even, exactly}
@@ -21,7 +21,7 @@ use Rattle.ieee.proofs.NearestWhole.{NearestTo, whole-even-nearest, nea
 use Rattle.ieee.proofs.Remainders.{Stands, difference-stands}
 
 -- x = n y + r with 2|r| ≤ |y|, and n even where they are equal; a zero has the sign of x; the quotient is n modulo 2 ^ 31, with the sign of n
-pub record Nearest-left (f : Format) (x y r : ℕ) (q : ℤ) : Type 0 where
+pub record NearestLeft (f : Format) (x y r : ℕ) (q : ℤ) : Type 0 where
   -- n without its sign, which is minus where the signs of x and y differ
   pub n : ℕ
   pub pattern : Pattern f r
@@ -77,8 +77,8 @@ quotient-finite : (f : Format) (x y u v : ℕ) → kind f x ≡ finite u → kin
 unfolding quotientOf quotientBy
 quotient-finite f x y u v p q = rw (p, q)
 
-pub remquo-is : (f : Format) → Fair f → (x y u v : ℕ) → Pattern f x → kind f x ≡ finite u → kind f y ≡ finite (suc v) → Nearest-left f x y (remquoOf f x y) (quotientOf f x y)
-remquo-is f g x y u v p e k =
+pub remquo-is : (f : Format) (x y u v : ℕ) → kind f x ≡ finite u → kind f y ≡ finite (suc v) → NearestLeft f x y (remquoOf f x y) (quotientOf f x y)
+remquo-is f x y u v e k =
     record {
       n = n;
       pattern = r .pattern;
@@ -115,12 +115,12 @@ remquo-is f g x y u v p e k =
     d = remains-distance f x y (remquoOf f x y) n c
 
 -- from the integers back to whole numbers
-left-nearest : (f : Format) (x y r : ℕ) (q : ℤ) → (a : Nearest-left f x y r q) → NearestTo (units f (magnitude f x)) (units f (magnitude f y)) (a .n)
+left-nearest : (f : Format) (x y r : ℕ) (q : ℤ) → (a : NearestLeft f x y r q) → NearestTo (units f (magnitude f x)) (units f (magnitude f y)) (a .n)
 left-nearest f x y r q a =
     let d = remains-distance f x y r (a .n) (a .counts) in
     record { half = omega (arith, a .half); tie = λ h. a .tie (omega arith) }
 
-pub remquo-only : (f : Format) (x y r r′ : ℕ) (q q′ : ℤ) → 0 < units f (magnitude f y) → Nearest-left f x y r q → Nearest-left f x y r′ q′ → (r ≡ r′) × (q ≡ q′)
+pub remquo-only : (f : Format) (x y r r′ : ℕ) (q q′ : ℤ) → 0 < units f (magnitude f y) → NearestLeft f x y r q → NearestLeft f x y r′ q′ → (r ≡ r′) × (q ≡ q′)
 remquo-only f x y r r′ q q′ l a b = (
   same-pattern f r r′ (a .pattern) (b .pattern) signs magnitudes,
   a .quotient ∙ ap (λ n. withSign (unlike (minus f x) (minus f y)) (n % 2 ^ 31)) counted ∙ sym (b .quotient),
@@ -161,10 +161,10 @@ pub record RemquoRows (f : Format) : Type 0 where
   pub infinite-y : (x y u : ℕ) → kind f x ≡ finite u → kind f y ≡ infinite → Answer f x y x (pos 0)
   pub below-half-y : (x y u v : ℕ) → Pattern f x → kind f x ≡ finite u → kind f y ≡ finite (suc v) → 2 * u ≤ suc v → Answer f x y x (pos 0)
   pub zero-x : (x y v : ℕ) → Pattern f x → kind f x ≡ finite 0 → kind f y ≡ finite (suc v) → Answer f x y x (pos 0)
-  pub zero-left : (x y u v : ℕ) → Pattern f x → kind f x ≡ finite u → kind f y ≡ finite (suc v) → magnitude f (remquoOf f x y) ≡ 0 → minus f (remquoOf f x y) ≡ minus f x
+  pub zero-left : (x y u v : ℕ) → kind f x ≡ finite u → kind f y ≡ finite (suc v) → magnitude f (remquoOf f x y) ≡ 0 → minus f (remquoOf f x y) ≡ minus f x
   pub zero-quotient : (x y u v : ℕ) → kind f x ≡ finite u → kind f y ≡ finite (suc v) → whole even u (suc v) % 2 ^ 31 ≡ 0 → quotientOf f x y ≡ pos 0
 
-below-left : (f : Format) (x y u v : ℕ) → Pattern f x → kind f x ≡ finite u → kind f y ≡ finite (suc v) → 2 * u ≤ suc v → Nearest-left f x y x (pos 0)
+below-left : (f : Format) (x y u v : ℕ) → Pattern f x → kind f x ≡ finite u → kind f y ≡ finite (suc v) → 2 * u ≤ suc v → NearestLeft f x y x (pos 0)
 below-left f x y u v p e k l =
     let a : Finite f x u = finite-is f x u e in
     record {
@@ -178,9 +178,9 @@ below-left f x y u v p e k l =
       quotient = sym (signed-zero (unlike (minus f x) (minus f y)));
     }
 
-remquo-below : (f : Format) → Fair f → (x y u v : ℕ) → Pattern f x → kind f x ≡ finite u → kind f y ≡ finite (suc v) → 2 * u ≤ suc v → Answer f x y x (pos 0)
-remquo-below f g x y u v p e k l =
-    remquo-only f x y (remquoOf f x y) x (quotientOf f x y) (pos 0) (omega (arith, finite-is f y (suc v) k .counts)) (remquo-is f g x y u v p e k) (below-left f x y u v p e k l)
+remquo-below : (f : Format) (x y u v : ℕ) → Pattern f x → kind f x ≡ finite u → kind f y ≡ finite (suc v) → 2 * u ≤ suc v → Answer f x y x (pos 0)
+remquo-below f x y u v p e k l =
+    remquo-only f x y (remquoOf f x y) x (quotientOf f x y) (pos 0) (omega (arith, finite-is f y (suc v) k .counts)) (remquo-is f x y u v e k) (below-left f x y u v p e k l)
 
 by-nan : (f : Format) (x : ℕ) (s t : Bool) (k : Kind) → (remquoBy f x k nan ≡ canonical f) × (quotientBy s t k nan ≡ pos 0)
 unfolding remquoBy quotientBy
@@ -194,17 +194,17 @@ by-zero f x s t nan = (refl, refl)
 by-zero f x s t infinite = (refl, refl)
 by-zero f x s t (finite u) = (refl, refl)
 
-pub remquo-rows : (f : Format) → Fair f → RemquoRows f
+pub remquo-rows : (f : Format) → RemquoRows f
 unfolding remquoOf remquoBy quotientOf quotientBy
-remquo-rows f g =
+remquo-rows f =
     record {
       nan-x = λ x y e. rw e (refl, refl);
       infinite-x = λ x y e. rw e (refl, refl);
       nan-y = λ x y e. rw e (by-nan f x (minus f x) (minus f y) (kind f x));
       zero-y = λ x y e. rw e (by-zero f x (minus f x) (minus f y) (kind f x));
       infinite-y = λ x y u e k. rw (e, k) (refl, refl);
-      below-half-y = remquo-below f g;
-      zero-x = λ x y v p e k. remquo-below f g x y 0 v p e k (omega arith);
-      zero-left = λ x y u v p e k z. remquo-is f g x y u v p e k .zero-sign z;
+      below-half-y = remquo-below f;
+      zero-x = λ x y v p e k. remquo-below f x y 0 v p e k (omega arith);
+      zero-left = λ x y u v e k z. remquo-is f x y u v e k .zero-sign z;
       zero-quotient = λ x y u v e k z. quotient-finite f x y u v e k ∙ ap (withSign (unlike (minus f x) (minus f y))) z ∙ signed-zero (unlike (minus f x) (minus f y));
     }

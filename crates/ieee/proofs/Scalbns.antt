@@ -7,13 +7,13 @@ use native.Mathlib.Omega.{arith}
 use lib.Pow.{pow-add, pow-pos, pow-mono, pow-lt}
 use lib.IntN.{ℤ, pos, negsuc, _*ℤ_}
 use Rattle.algebra.proofs.Products.{order, times-le}
-use Rattle.ieee.specs.Format.{Format, Fair, inf, fields, units, canonical}
+use Rattle.ieee.specs.Format.{Format, Fair, inf, units, canonical}
 use Rattle.ieee.specs.Pattern.{Pattern, minus, magnitude, signed, withSign, value, Kind, nan, infinite, finite, kind}
 use Rattle.ieee.specs.Exact.{Value, dyadic, Exact, ratio, Over, Under}
 use Rattle.ieee.specs.Round.{Way, even, away, shorter, longer, Attribute, ties-to-even, wayOf, rounded, answer}
 use Rattle.ieee.specs.Rule.{to-even, Once}
 use Rattle.ieee.specs.Scalbn.{scaled, reach, clamp, scalbnBy, scalbnIn, scalbnOf, exactScalbn}
-use Rattle.ieee.proofs.Units.{units-at, units-mono, units-lt}
+use Rattle.ieee.proofs.Units.{units-mono, units-lt, units-inf}
 use Rattle.ieee.proofs.Alike.{Beside, Places, same-side}
 use Rattle.ieee.proofs.Patterns.{finite-is, zero-is, value-is}
 use Rattle.ieee.proofs.Signs.{signed-times, signed-zero}
@@ -48,16 +48,6 @@ tiny-alike f w n d e p q = same-side f w (ratio n d) (ratio n e) (λ j l. beside
 
     beside : (s : ℕ) → Beside (ratio n d) (ratio n e) s
     beside s = record { above = (over s d e p, over s e d q); below = (under s d e q, under s e d p) }
-
--- what the number after the last finite one would be
-pub units-inf : (f : Format) → Fair f → units f (inf f) ≡ 2 ^ (f .frac + (2 ^ f .expo - 2))
-units-inf f g = ap (units f) (omega arith) ∙ units-at f (2 ^ f .expo - 1) 0 (pow-pos (f .frac)) ∙ step (2 ^ f .expo - 1) (2 ^ f .expo - 2) (omega (arith, four)) ∙ sym (pow-add 2 (f .frac) (2 ^ f .expo - 2))
-  where
-    four : 2 ^ 2 ≤ 2 ^ f .expo
-    four = pow-mono (g .expo-two)
-
-    step : (q e : ℕ) → q ≡ suc e → fields (2 ^ f .frac) q 0 ≡ 2 ^ f .frac * 2 ^ e
-    step q e h = ap (λ c. fields (2 ^ f .frac) c 0) h ∙ omega arith
 
 module _ (f : Format) (g : Fair f) where
   reach-past : units f (inf f) < 2 ^ reach f

@@ -1,6 +1,6 @@
 -- x = n y + r over the integers, read as a sum of whole numbers without signs. Assumes nothing.
 use Prim.Native.Nat.{ℕ, zero, suc, _+_, _*_, _<_}
-use mathlib.Core.Path.{_≡_, refl, sym}
+use mathlib.Core.Path.{_≡_, refl, ap, _∙_}
 use mathlib.Core.Logic.{_↔_}
 use mathlib.Core.Bool.{Bool, true, false, not}
 use native.Mathlib.Omega.{arith}
@@ -10,6 +10,7 @@ use Rattle.ieee.specs.Format.{Format, units}
 use Rattle.ieee.specs.Pattern.{minus, magnitude, unlike, withSign, value}
 use Rattle.ieee.specs.Rule.{distance}
 use Rattle.ieee.proofs.Patterns.{value-is}
+use Rattle.ieee.proofs.Signs.{signed-product}
 
 pub unlike-self : (s : Bool) → unlike s s ≡ false
 unlike-self false = refl
@@ -19,19 +20,14 @@ pub unlike-not : (s : Bool) → unlike s (not s) ≡ true
 unlike-not false = refl
 unlike-not true = refl
 
-minus-zero : {n : ℕ} → n ≡ 0 → negℤ (pos n) ≡ pos n
-minus-zero e = rw e
+unlike-twice : (s t : Bool) → unlike (unlike s t) t ≡ s
+unlike-twice false false = refl
+unlike-twice false true = refl
+unlike-twice true false = refl
+unlike-twice true true = refl
 
 times-sign : (s t : Bool) (n v : ℕ) → withSign (unlike s t) n *ℤ withSign t v ≡ withSign s (n * v)
-times-sign false false n v = refl
-times-sign false true zero zero = refl
-times-sign false true zero (suc v) = minus-zero (omega arith)
-times-sign false true (suc n) zero = minus-zero (omega arith)
-times-sign false true (suc n) (suc v) = refl
-times-sign true false zero v = sym (minus-zero (omega arith))
-times-sign true false (suc n) v = refl
-times-sign true true n zero = sym (minus-zero (omega arith))
-times-sign true true n (suc v) = refl
+times-sign s t n v = signed-product (unlike s t) t n v ∙ ap (λ b. withSign b (n * v)) (unlike-twice s t)
 
 sum-reads : (a b c : ℤ) → (a ≡ b +ℤ c) ↔ (up a + dn b + dn c ≡ dn a + up b + up c)
 sum-reads a b c = (λ e. omega (arith, eqZ-fact e, addZ b c), λ e. eqZ a (b +ℤ c) (omega (arith, addZ b c)))

@@ -6,11 +6,11 @@ use mathlib.Core.Bool.{Bool, true, false, not}
 use native.Mathlib.Nat.{mul-le-mul}
 use native.Mathlib.Omega.{arith}
 use lib.Pow.{pow-pos}
-use lib.IntN.{ℤ, pos, negsuc, negℤ, natAbs, _-ℤ_, _*ℤ_, pos-*ℤ-pos, negsuc-*ℤ-pos, zero-*ℤ}
+use lib.IntN.{ℤ, pos, negsuc, negℤ, natAbs, _-ℤ_, _*ℤ_, pos-*ℤ-pos, pos-*ℤ-negsuc, negsuc-*ℤ-pos, negsuc-*ℤ-negsuc, zero-*ℤ, *ℤ-zero}
 use Rattle.algebra.proofs.Products.{mul-le-cancel}
 use Rattle.algebra.proofs.Roots.{sq-le, Root, root-exists}
 use Rattle.algebra.proofs.Integers.{subZ, negZ, absZ}
-use Rattle.ieee.specs.Pattern.{withSign}
+use Rattle.ieee.specs.Pattern.{unlike, withSign}
 use Rattle.ieee.specs.Exact.{Value, dyadic, surd, signOf, Exact, absolute}
 use Rattle.ieee.specs.Rule.{distance, Within, AsNear, AsNearℤ}
 use Rattle.ieee.proofs.Sides.{Sound}
@@ -45,6 +45,17 @@ pub signed-times : (s : Bool) (u d : ℕ) → withSign s u *ℤ pos d ≡ withSi
 signed-times false u d = pos-*ℤ-pos u d
 signed-times true zero d = zero-*ℤ (pos d) ∙ ap (λ n. negℤ (pos n)) {x = 0} {y = 0 * d} (omega arith)
 signed-times true (suc u) d = negsuc-*ℤ-pos u d
+
+-- the product of whole numbers with signs
+pub signed-product : (s t : Bool) (u v : ℕ) → withSign s u *ℤ withSign t v ≡ withSign (unlike s t) (u * v)
+signed-product false false u v = pos-*ℤ-pos u v
+signed-product false true u zero = *ℤ-zero (pos u) ∙ ap (λ n. negℤ (pos n)) {x = 0} {y = u * 0} (omega arith)
+signed-product false true u (suc v) = pos-*ℤ-negsuc u v
+signed-product true false u v = signed-times true u v
+signed-product true true zero zero = refl
+signed-product true true zero (suc v) = zero-*ℤ (negsuc v) ∙ ap pos {x = 0} {y = 0 * suc v} (omega arith)
+signed-product true true (suc u) zero = *ℤ-zero (negsuc u) ∙ ap pos {x = 0} {y = suc u * 0} (omega arith)
+signed-product true true (suc u) (suc v) = negsuc-*ℤ-negsuc u v
 
 pub like-apart : (s : Bool) (a b : ℕ) → natAbs (withSign s a -ℤ withSign s b) ≡ distance a b
 like-apart false a b = omega (arith, absZ (pos a -ℤ pos b), subZ (pos a) (pos b))

@@ -6,8 +6,8 @@ use native.Mathlib.Decide.{decLe, le-ind}
 use native.Mathlib.Omega.{arith, by-contra, both-ways}
 use native.Mathlib.Numerals.{add-one}
 use lib.Arith.{digits-div, digits-mod}
-use lib.Pow.{pow-pos}
-use Rattle.ieee.specs.Format.{Format, units, fields}
+use lib.Pow.{pow-add, pow-pos, pow-mono}
+use Rattle.ieee.specs.Format.{Format, Fair, inf, units, fields}
 
 -- the gap above a magnitude with exponent field e
 abbrev pub gap : ℕ → ℕ
@@ -97,3 +97,13 @@ units-inj f i j e =
 -- so units determine the exponent field and the fraction
 pub units-fields : (f : Format) (i j : ℕ) → units f i ≡ units f j → (i / 2 ^ f .frac ≡ j / 2 ^ f .frac) × (i % 2 ^ f .frac ≡ j % 2 ^ f .frac)
 units-fields f i j e = let d = units-inj f i j e in (ap (λ m. m / 2 ^ f .frac) d, ap (λ m. m % 2 ^ f .frac) d)
+
+-- what the number after the last finite one would be
+pub units-inf : (f : Format) → Fair f → units f (inf f) ≡ 2 ^ (f .frac + (2 ^ f .expo - 2))
+units-inf f g = ap (units f) (omega arith) ∙ units-at f (2 ^ f .expo - 1) 0 (pow-pos (f .frac)) ∙ step (2 ^ f .expo - 1) (2 ^ f .expo - 2) (omega (arith, four)) ∙ sym (pow-add 2 (f .frac) (2 ^ f .expo - 2))
+  where
+    four : 2 ^ 2 ≤ 2 ^ f .expo
+    four = pow-mono (g .expo-two)
+
+    step : (q e : ℕ) → q ≡ suc e → fields (2 ^ f .frac) q 0 ≡ 2 ^ f .frac * 2 ^ e
+    step q e h = ap (λ c. fields (2 ^ f .frac) c 0) h ∙ omega arith

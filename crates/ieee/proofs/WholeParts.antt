@@ -2,10 +2,10 @@
 use Prim.Native.Nat.{ℕ, zero, suc, _+_, _-_, _*_, _/_, _%_, _^_, _≤_, _<_}
 use mathlib.Core.Path.{_≡_, refl, sym, ap, _∙_}
 use mathlib.Core.Bool.{Bool, true, false, _&&_, _||_, cond}
-use native.Mathlib.Nat.{zero-mul, add-zero, two-pow-succ, mod-lt}
+use native.Mathlib.Nat.{zero-mul, two-pow-succ, mod-lt}
 use native.Mathlib.Omega.{arith}
 use lib.Dec.{leb, ltb, eqb}
-use lib.Pow.{pow-pos, pow-mono, pow-lt}
+use lib.Pow.{pow-add, pow-pos, pow-mono, pow-lt}
 use borrow.Author.Tests.{le-ltb, lt-leb, eq-eqb, ne-eqb}
 use Rattle.algebra.proofs.Products.{order, times, times-le, mul-lt-cancel}
 use Rattle.algebra.proofs.Quotients.{div-mod, div-is}
@@ -14,7 +14,7 @@ use Rattle.ieee.specs.Format.{Format, Fair, top, low, inf, units, fields
 use Rattle.ieee.specs.Pattern.{Pattern, minus, magnitude, signed, nan, infinite, finite, kind, withSign, value}
 use Rattle.ieee.specs.Round.{Way, even, away, shorter, longer, Attribute, wayOf, exactly}
 use Rattle.ieee.specs.Whole.{whole, wholeBy, wholeIn}
-use Rattle.ieee.proofs.Units.{units-is, units-at, units-zero, units-lt-inv}
+use Rattle.ieee.proofs.Units.{units-is, units-zero, units-lt-inv, units-inf}
 use Rattle.ieee.proofs.Patterns.{inf-below-top, magnitude-signed, minus-signed, pattern-signed, finite-is, zero-is, value-is}
 use Rattle.ieee.proofs.Fixed.{fixed-whole}
 use Rattle.ieee.proofs.Held.{held}
@@ -70,10 +70,8 @@ module _ (f : Format) where
   ones-below-infinity g =
       let d = pow-diff {a = f .expo} {b = 1} (omega (arith, g .expo-two)) in
       let t = pow-mono {i = 1} {j = f .expo - 1} (omega (arith, g .expo-two)) in
-      let s : 2 ^ f .expo - 1 ≡ suc (2 ^ f .expo - 2) = omega arith in
-      let u = ap (units f) (times (2 ^ f .frac) s ∙ sym (add-zero _)) ∙ units-at f (suc (2 ^ f .expo - 2)) 0 (pow-pos (f .frac)) in
-      let l : low f < 2 ^ f .expo - 2 = omega (arith, g .frac-fits) in
-      omega (arith, u, pow-pos (f .frac), times-le (2 ^ f .frac) (pow-lt l))
+      let l : f .frac + low f < f .frac + (2 ^ f .expo - 2) = omega (arith, g .frac-fits) in
+      omega (arith, units-inf f g, pow-add 2 (f .frac) (low f), pow-lt l)
 
   -- a finite number sent to a whole number of ones, whatever the way, is held
   whole-held : Fair f → (w : Way) (m : ℕ) → m < inf f → (n : ℕ) × (n < inf f) × (units f n ≡ whole w (units f m) (2 ^ low f) * 2 ^ low f)

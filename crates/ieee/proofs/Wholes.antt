@@ -2,11 +2,11 @@
 use Prim.Native.Nat.{ℕ, zero, suc, _+_, _*_, _/_, _%_, _^_, _≤_, _<_}
 use mathlib.Core.Path.{_≡_, refl, sym, ap, _∙_}
 use mathlib.Core.Bool.{Bool, true, false}
-use native.Mathlib.Nat.{zero-mul, one-mul}
+use native.Mathlib.Nat.{one-mul}
 use native.Mathlib.Omega.{arith}
 use lib.Dec.{lt→ltb, le→leb}
 use lib.Pow.{pow-pos}
-use lib.IntN.{ℤ, pos, negsuc, negℤ, _+ℤ_, _*ℤ_}
+use lib.IntN.{ℤ, pos, negsuc, negℤ, natAbs, _+ℤ_, _*ℤ_}
 use lib.Signed.{_≤ℤ_, _<ℤ_}
 use borrow.Author.Tests.{eq-eqb, ne-eqb}
 use Rattle.algebra.proofs.Products.{times, mul-lt-cancel}
@@ -20,6 +20,7 @@ use Rattle.ieee.specs.Status.{OK, INEXACT}
 use Rattle.ieee.proofs.Units.{units-inj}
 use Rattle.ieee.proofs.Decide.{split, eqb-reads}
 use Rattle.ieee.proofs.Patterns.{same-pattern, finite-is, value-is}
+use Rattle.ieee.proofs.Signs.{abs-signed, signed-times}
 use Rattle.ieee.proofs.WholeParts.{sent-value, wholeIn-sent, wholeIn-none, nan-stays, infinity-stays, zero-stays}
 
 -- r is x cut to a whole number of ones: |k| ≤ |x| < |k| + 1 with the sign kept, and nothing rounded
@@ -43,9 +44,9 @@ pub record Floored (f : Format) (x r : ℕ) : Type 0 where
   pub sign : minus f r ≡ minus f x
 
 -- ---- trunc
-pub trunc-is : (f : Format) → Fair f → (x u : ℕ) → Pattern f x → kind f x ≡ finite u → Truncated f x (truncOf f x)
+pub trunc-is : (f : Format) → Fair f → (x u : ℕ) → kind f x ≡ finite u → Truncated f x (truncOf f x)
 unfolding truncOf
-trunc-is f g x u p h =
+trunc-is f g x u h =
     let s = wholeIn-sent f toward-zero g x u h in
     let d = div-mod (units f (magnitude f x)) (2 ^ low f) (pow-pos (low f)) in
     record {
@@ -75,15 +76,6 @@ timesZ : (a : ℤ) (d : ℕ) → (up (a *ℤ pos d) ≡ up a * d) × (dn (a *ℤ
 timesZ (pos n) d = (refl, omega arith)
 timesZ (negsuc n) d = let (p, q) = negZ (pos (suc n * d)) in (p ∙ omega arith, q)
 
-withSign-times : (s : Bool) (k d : ℕ) → withSign s (k * d) ≡ withSign s k *ℤ pos d
-withSign-times false k d = refl
-withSign-times true zero d = simp zero-mul
-withSign-times true (suc k) d = refl
-
-withSign-only : (s : Bool) (m n : ℕ) → withSign s m ≡ withSign s n → m ≡ n
-withSign-only false m n e = ap up e
-withSign-only true m n e = omega (arith, negZ (pos m), negZ (pos n), ap dn e)
-
 longer-sides : (n d : ℕ) → 0 < d → (n ≤ whole longer n d * d) × (whole longer n d * d < n + d)
 longer-sides n d p =
     let m = div-mod n d p in
@@ -93,7 +85,7 @@ longer-sides n d p =
 
 -- below zero an order turns round: -k * d ≤ -n < (-k + 1) * d
 minus-least : (n k d : ℕ) → n ≤ k * d → (negℤ (pos k) *ℤ pos d) ≤ℤ negℤ (pos n)
-minus-least n k d h = rw (← withSign-times true k d) (record { le = leZ-of (negℤ (pos (k * d))) (negℤ (pos n)) (omega (arith, negZ (pos (k * d)), negZ (pos n))) })
+minus-least n k d h = rw (signed-times true k d) (record { le = leZ-of (negℤ (pos (k * d))) (negℤ (pos n)) (omega (arith, negZ (pos (k * d)), negZ (pos n))) })
 
 minus-most : (n k d : ℕ) → k * d < n + d → negℤ (pos n) <ℤ ((negℤ (pos k) +ℤ pos 1) *ℤ pos d)
 minus-most n k d h =
@@ -110,16 +102,16 @@ floor-most : (s : Bool) (n d : ℕ) → 0 < d → withSign s n <ℤ ((withSign s
 floor-most false n d p = record { lt = lt→ltb n ((n / d + 1) * d) (omega (arith, div-mod n d p)) }
 floor-most true n d p = minus-most n (whole longer n d) d (longer-sides n d p .1)
 
-pub floor-is : (f : Format) → Fair f → (x u : ℕ) → Pattern f x → kind f x ≡ finite u → Floored f x (floorOf f x)
+pub floor-is : (f : Format) → Fair f → (x u : ℕ) → kind f x ≡ finite u → Floored f x (floorOf f x)
 unfolding floorOf
-floor-is f g x u p h =
+floor-is f g x u h =
     let s = wholeIn-sent f toward-negative g x u h in
     let k = whole (wayOf toward-negative (minus f x)) (units f (magnitude f x)) (2 ^ low f) in
     record {
       k = withSign (minus f x) k;
       pattern = s .pattern;
       finite = s .finite;
-      counts = sent-value f (wayOf toward-negative (minus f x)) x (wholeIn f toward-negative x) s ∙ withSign-times (minus f x) k (2 ^ low f);
+      counts = sent-value f (wayOf toward-negative (minus f x)) x (wholeIn f toward-negative x) s ∙ sym (signed-times (minus f x) k (2 ^ low f));
       least = rw (value-is f x) (floor-least (minus f x) (units f (magnitude f x)) (2 ^ low f) (pow-pos (low f)));
       most = rw (value-is f x) (floor-most (minus f x) (units f (magnitude f x)) (2 ^ low f) (pow-pos (low f)));
       sign = s .sign;
@@ -135,7 +127,7 @@ floor-below d z k l a b =
 value-only : (f : Format) (r q : ℕ) → Pattern f r → Pattern f q → minus f r ≡ minus f q → value f r ≡ value f q → r ≡ q
 value-only f r q a b s e =
     let v = sym (value-is f r) ∙ e ∙ value-is f q ∙ ap (λ t. withSign t (units f (magnitude f q))) (sym s) in
-    let u = withSign-only (minus f r) (units f (magnitude f r)) (units f (magnitude f q)) v in
+    let u = sym (abs-signed (minus f r) (units f (magnitude f r))) ∙ ap natAbs v ∙ abs-signed (minus f r) (units f (magnitude f q)) in
     same-pattern f r q a b s (units-inj f (magnitude f r) (magnitude f q) u)
 
 pub floor-only : (f : Format) (x r q : ℕ) → Floored f x r → Floored f x q → r ≡ q
@@ -178,9 +170,9 @@ unfolding floorOf floorStatus
 floor-rows f = wholeIn-rows f toward-negative
 
 -- ---- floor between -1 and 1
-pub floor-above-zero : (f : Format) (x u : ℕ) → kind f x ≡ finite u → 0 < u → u < 2 ^ low f → minus f x ≡ false → floorOf f x ≡ 0
+pub floor-above-zero : (f : Format) (x u : ℕ) → kind f x ≡ finite u → u < 2 ^ low f → minus f x ≡ false → floorOf f x ≡ 0
 unfolding floorOf
-floor-above-zero f x u h p l s =
+floor-above-zero f x u h l s =
     let e = ap (λ t. whole (wayOf toward-negative t) u (2 ^ low f)) s ∙ div-is u (2 ^ low f) 0 u l (omega arith) .0 in
     wholeIn-none f toward-negative x u h e ∙ ap (λ t. signed f t 0) s
 
