@@ -9,10 +9,13 @@ use lib.Pow.{pow-pos}
 use lib.IntN.{ℤ, pos, negsuc, negℤ, natAbs, _-ℤ_, _*ℤ_, pos-*ℤ-pos, pos-*ℤ-negsuc, negsuc-*ℤ-pos, negsuc-*ℤ-negsuc, zero-*ℤ, *ℤ-zero}
 use Rattle.algebra.proofs.Products.{mul-le-cancel}
 use Rattle.algebra.proofs.Roots.{sq-le, Root, root-exists}
-use Rattle.algebra.proofs.Integers.{subZ, negZ, absZ}
-use Rattle.ieee.specs.Pattern.{unlike, withSign}
+use Rattle.algebra.proofs.Integers.{up, dn, subZ, negZ, absZ}
+use Rattle.ieee.specs.Format.{Format, units}
+use Rattle.ieee.specs.Pattern.{minus, magnitude, unlike, withSign, value}
 use Rattle.ieee.specs.Exact.{Value, dyadic, surd, signOf, Exact, absolute}
 use Rattle.ieee.specs.Rule.{distance, Within, AsNear, AsNearℤ}
+use Rattle.ieee.proofs.Units.{units-lt, units-inj}
+use Rattle.ieee.proofs.Patterns.{value-is}
 use Rattle.ieee.proofs.Sides.{Sound}
 
 -- one sign is another, or the opposite
@@ -129,3 +132,21 @@ unlike-zero s (surd zero) u w h q =
     omega (arith, within-zero (not s) w 0 1 .0 (q 0 1 (omega arith) z))
 unlike-zero s (surd (suc n)) u zero h q = refl
 unlike-zero s (surd (suc n)) u (suc w) h q = absurd (root-unlike (suc n) u w h q)
+
+-- ---- distinct patterns have distinct values, save the two zeros
+pub signed-tells : (s t : Bool) (m n : ℕ) → withSign s m ≡ withSign t n → (m ≡ n) × (0 < m → s ≡ t)
+signed-tells s t m n e = (same, sign s t e)
+  where
+    same : m ≡ n
+    same = sym (abs-signed s m) ∙ ap natAbs e ∙ abs-signed t n
+
+    sign : (s t : Bool) → withSign s m ≡ withSign t n → 0 < m → s ≡ t
+    sign false false e l = refl
+    sign false true e l = absurd (omega (arith, ap up e, negZ (pos n)))
+    sign true false e l = absurd (omega (arith, ap dn e, negZ (pos m)))
+    sign true true e l = refl
+
+pub value-tells : (f : Format) (x y : ℕ) → value f x ≡ value f y → (magnitude f x ≡ magnitude f y) × (0 < magnitude f x → minus f x ≡ minus f y)
+value-tells f x y e =
+    let (m, s) = signed-tells (minus f x) (minus f y) (units f (magnitude f x)) (units f (magnitude f y)) (sym (value-is f x) ∙ e ∙ value-is f y) in
+    (units-inj f (magnitude f x) (magnitude f y) m, λ l. s (omega (arith, units-lt f l)))

@@ -6,7 +6,7 @@ use native.Mathlib.Nat.{one-mul}
 use native.Mathlib.Omega.{arith}
 use lib.Dec.{lt→ltb, le→leb}
 use lib.Pow.{pow-pos}
-use lib.IntN.{ℤ, pos, negsuc, negℤ, natAbs, _+ℤ_, _*ℤ_}
+use lib.IntN.{ℤ, pos, negsuc, negℤ, _+ℤ_, _*ℤ_}
 use lib.Signed.{_≤ℤ_, _<ℤ_}
 use borrow.Author.Tests.{eq-eqb, ne-eqb}
 use Rattle.algebra.proofs.Products.{times, mul-lt-cancel}
@@ -20,7 +20,7 @@ use Rattle.ieee.specs.Status.{OK, INEXACT}
 use Rattle.ieee.proofs.Units.{units-inj}
 use Rattle.ieee.proofs.Decide.{split, eqb-reads}
 use Rattle.ieee.proofs.Patterns.{same-pattern, finite-is, value-is}
-use Rattle.ieee.proofs.Signs.{abs-signed, signed-times}
+use Rattle.ieee.proofs.Signs.{signed-times, value-tells}
 use Rattle.ieee.proofs.WholeParts.{sent-value, wholeIn-sent, wholeIn-none, nan-stays, infinity-stays, zero-stays}
 
 -- r is x cut to a whole number of ones: |k| ≤ |x| < |k| + 1 with the sign kept, and nothing rounded
@@ -125,10 +125,7 @@ floor-below d z k l a b =
     omega (arith, addZ l (pos 1))
 
 value-only : (f : Format) (r q : ℕ) → Pattern f r → Pattern f q → minus f r ≡ minus f q → value f r ≡ value f q → r ≡ q
-value-only f r q a b s e =
-    let v = sym (value-is f r) ∙ e ∙ value-is f q ∙ ap (λ t. withSign t (units f (magnitude f q))) (sym s) in
-    let u = sym (abs-signed (minus f r) (units f (magnitude f r))) ∙ ap natAbs v ∙ abs-signed (minus f r) (units f (magnitude f q)) in
-    same-pattern f r q a b s (units-inj f (magnitude f r) (magnitude f q) u)
+value-only f r q a b s e = same-pattern f r q a b s (value-tells f r q e .0)
 
 pub floor-only : (f : Format) (x r q : ℕ) → Floored f x r → Floored f x q → r ≡ q
 floor-only f x r q a b =
