@@ -1,15 +1,14 @@
 -- Integers for `omega`: z is `up z - dn z`, one of which is 0, so that each fact on integers is one on whole numbers, which `omega` reads.
 -- A goal: `eqZ a b (omega (arith, addZ a b))`. A hypothesis: `omega (arith, leZ-fact a b h)`. Assumes nothing.
-use mathlib.Core.Path.{_≡_, refl, sym, ap, _∙_, subst}
+use mathlib.Core.Path.{_≡_, refl, sym, ap, subst}
 use mathlib.Core.Bool.{Bool, true, false, not, cond}
-use Prim.Native.Nat.{ℕ, zero, suc, _+_, _-_, _*_, _^_, _≤_, _<_, min}
-use native.Mathlib.Omega.{arith, both-ways}
-use lib.Dec.{T, ltb, leb, ltb→lt, nltb→le, lt→ltb, le→leb, leb→le}
+use Prim.Native.Nat.{ℕ, zero, suc, _+_, _-_, _^_, _≤_, _<_, min}
+use native.Mathlib.Omega.{arith}
+use lib.Dec.{T, ltb, ltb→lt, nltb→le, lt→ltb, le→leb, leb→le}
 use lib.IntN.{ℤ, pos, negsuc, negℤ, natAbs, subℕ, _+ℤ_, _-ℤ_}
 use lib.Signed.{mag, leZ, ltZ, nonNeg}
 use mir.Syntax.{Width}
 use mir.Val.{SFits, hbits}
-use Rattle.algebra.proofs.Products.{order}
 
 abbrev pub up : ℤ → ℕ
 up (pos n) = n

@@ -1,10 +1,9 @@
 -- Powers of two for `omega`: `simp pow-out` takes each power of a sum apart, and then a power of a variable is an unknown. Assumes nothing.
-use mathlib.Core.Path.{_≡_, refl, sym, ap, _∙_}
-use Prim.Native.Nat.{ℕ, zero, suc, _+_, _*_, _-_, _/_, _%_, _^_, _≤_, _<_}
-use native.Mathlib.Nat.{pow-suc, mul-le-mul}
-use native.Mathlib.Omega.{arith, by-contra, both-ways}
-use lib.Pow.{pow-add, pow-pos, pow-mono, pow-lt}
-use Rattle.algebra.proofs.Products.{order, times-le, le-split}
+use mathlib.Core.Path.{_≡_, sym, ap, _∙_}
+use Prim.Native.Nat.{ℕ, suc, _+_, _*_, _-_, _^_, _≤_, _<_}
+use native.Mathlib.Nat.{pow-suc}
+use native.Mathlib.Omega.{arith, by-contra}
+use lib.Pow.{pow-add, pow-pos, pow-mono}
 
 pub ruleset pow-out = (pow-add, pow-suc)
 

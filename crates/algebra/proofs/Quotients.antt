@@ -1,6 +1,6 @@
 -- Quotients and remainders by a divisor that is no numeral. Assumes nothing.
 use mathlib.Core.Path.{_≡_, sym, ap, _∙_}
-use Prim.Native.Nat.{ℕ, suc, _+_, _*_, _/_, _%_, _≤_, _<_}
+use Prim.Native.Nat.{ℕ, _+_, _*_, _/_, _%_, _≤_, _<_}
 use native.Mathlib.Nat.{mod-lt, div-add-mod', mul-add-mod-self-right}
 use native.Mathlib.Omega.{arith, by-contra, both-ways}
 use Rattle.algebra.proofs.Products.{times, times-le}

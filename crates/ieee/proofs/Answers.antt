@@ -1,17 +1,15 @@
 -- The rule for answers: an exact value rounded once to the nearest meets it, and nothing else does. Assumes nothing.
-use Prim.Native.Nat.{ℕ, zero, suc, _+_, _-_, _*_, _^_, _≤_, _<_}
+use Prim.Native.Nat.{ℕ, zero, _<_}
 use mathlib.Core.Path.{_≡_, refl, sym, ap, _∙_, subst, subst₂}
-use mathlib.Core.Logic.{_↔_}
-use mathlib.Core.Bool.{Bool, true, false, not}
+use mathlib.Core.Bool.{Bool, not}
 use native.Mathlib.Omega.{arith}
-use lib.IntN.{ℤ, pos, natAbs}
+use lib.IntN.{natAbs}
 use Rattle.ieee.specs.Format.{Format, Fair, top, inf, units}
 use Rattle.ieee.specs.Pattern.{Pattern, minus, magnitude, signed, withSign, value}
-use Rattle.ieee.specs.Exact.{Value, signOf, absolute, Over}
+use Rattle.ieee.specs.Exact.{Value, signOf, absolute}
 use Rattle.ieee.specs.Round.{rounded, answer, wayOf}
-use Rattle.ieee.specs.Rule.{Ties, to-even, to-away, tiesWay, tiesAttribute, Preferred, AsNear, AsNearℤ, Nearest, Once, halfway}
+use Rattle.ieee.specs.Rule.{Ties, to-even, to-away, tiesWay, tiesAttribute, Preferred, AsNear, AsNearℤ, Nearest, Once}
 use Rattle.ieee.proofs.Units.{units-zero, units-inj}
-use Rattle.ieee.proofs.Past.{rounded-le}
 use Rattle.ieee.proofs.Patterns.{inf-below-top, magnitude-signed, minus-signed, pattern-signed, signed-is, value-is, value-signed}
 use Rattle.ieee.proofs.Signs.{by-sign, sound, abs-signed, signed-zero, near-like, near-unlike, unlike-zero}
 use Rattle.ieee.proofs.Rule.{inf-pos, rounded-nearest, nearest-rounded}

@@ -1,16 +1,16 @@
 -- The directed ways meet their rules, and nothing else does. Assumes nothing.
-use Prim.Native.Nat.{ℕ, zero, suc, _+_, _-_, _*_, _%_, _≤_, _<_}
-use mathlib.Core.Path.{_≡_, refl, sym, ap, _∙_, subst}
+use Prim.Native.Nat.{ℕ, zero, suc, _*_, _≤_, _<_}
+use mathlib.Core.Path.{_≡_, sym, subst}
 use native.Mathlib.Omega.{arith, both-ways, by-contra}
 use Rattle.algebra.proofs.Products.{order}
 use Rattle.ieee.specs.Format.{Format, inf, units}
-use Rattle.ieee.specs.Exact.{Exact, ratio, root, Over, Under}
+use Rattle.ieee.specs.Exact.{Exact, Over, Under}
 use Rattle.ieee.specs.Round.{shorter, longer, rounded}
 use Rattle.ieee.specs.Rule.{Toward, Outward}
 use Rattle.ieee.proofs.Units.{units-mono, units-zero}
 use Rattle.ieee.proofs.Decide.{split}
-use Rattle.ieee.proofs.Sides.{Sound, over-zero, under-reads, over-down, under-up}
-use Rattle.ieee.proofs.Past.{Past, past-down, rounded-is, rounded-past, rounded-not-past, rounded-le}
+use Rattle.ieee.proofs.Sides.{Sound, over-zero, under-reads, under-up}
+use Rattle.ieee.proofs.Past.{Past, past-down, rounded-past, rounded-not-past, rounded-le}
 
 module _ (f : Format) (l : 0 < inf f) (x : Exact) (s : Sound x) where
   shorter-at : (m : ℕ) → Past f shorter x m → (m < inf f) × Over x (2 * units f m)

@@ -1,10 +1,10 @@
 -- A value that the format holds comes back, whatever the way. Assumes nothing.
-use Prim.Native.Nat.{ℕ, zero, suc, _+_, _-_, _*_, _%_, _^_, _≤_, _<_}
-use mathlib.Core.Path.{_≡_, refl, sym, ap, _∙_, subst}
+use Prim.Native.Nat.{ℕ, zero, suc, _*_, _≤_, _<_}
+use mathlib.Core.Path.{_≡_, ap, _∙_}
 use native.Mathlib.Omega.{arith}
-use Rattle.algebra.proofs.Products.{times-le, cross}
+use Rattle.algebra.proofs.Products.{cross}
 use Rattle.ieee.specs.Format.{Format, inf, units}
-use Rattle.ieee.specs.Exact.{Exact, ratio, Over, Under}
+use Rattle.ieee.specs.Exact.{ratio, Over, Under}
 use Rattle.ieee.specs.Round.{Way, even, away, shorter, longer, rounded}
 use Rattle.ieee.proofs.Units.{units-rise}
 use Rattle.ieee.proofs.Sides.{over-not-under}

@@ -1,15 +1,15 @@
 -- fma: for finite operands the exact x y + z, rounded once; and every other row. Assumes nothing.
 use Prim.Native.Nat.{ℕ, zero, suc, _+_, _*_, _^_, _<_}
 use mathlib.Core.Path.{_≡_, refl, sym, ap, _∙_}
-use mathlib.Core.Bool.{Bool, true, false, not, cond, Bool·beq}
+use mathlib.Core.Bool.{Bool, true, false, not, cond}
 use native.Mathlib.Omega.{arith}
 use lib.Pow.{pow-pos}
-use lib.IntN.{ℤ, pos, negℤ, _+ℤ_, _*ℤ_, +ℤ-idl}
+use lib.IntN.{pos, negℤ, _+ℤ_, _*ℤ_, +ℤ-idl}
 use Rattle.algebra.proofs.Products.{times as multiplied}
 use Rattle.algebra.proofs.Integers.{addZ, negZ, eqZ-fact}
 use Rattle.ieee.specs.Format.{Format, Fair, low, inf, units, canonical}
 use Rattle.ieee.specs.Pattern.{Pattern, minus, magnitude, signed, unlike, withSign, value, Kind, nan, infinite, finite, kind}
-use Rattle.ieee.specs.Exact.{Value, dyadic}
+use Rattle.ieee.specs.Exact.{dyadic}
 use Rattle.ieee.specs.Round.{Attribute, ties-to-even, answer}
 use Rattle.ieee.specs.Rule.{to-even, Once}
 use Rattle.ieee.specs.Fma.{times, sumOf, zeroSum, plusBy, fmaIn, fmaOf, exactFma, zeroSign}

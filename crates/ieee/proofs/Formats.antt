@@ -1,7 +1,7 @@
 -- The formats are fair, and have the scope's numbers. Assumes nothing.
 use mathlib.Core.Path.{refl}
 use lib.Dec.{lit≤, lit<}
-use Rattle.ieee.specs.Format.{Format, Fair, b32, b64, units}
+use Rattle.ieee.specs.Format.{Fair, b32, b64, units}
 use Rattle.ieee.specs.Numbers.{Numbers64, Numbers32}
 
 pub fair64 : Fair b64

@@ -1,6 +1,6 @@
 -- A number of at most frac + 1 digits and then zeros is held by the format, so rounding gives it back. Assumes nothing.
-use Prim.Native.Nat.{ℕ, zero, suc, _+_, _-_, _*_, _/_, _%_, _^_, _≤_, _<_}
-use mathlib.Core.Path.{_≡_, refl, sym, ap, _∙_, subst}
+use Prim.Native.Nat.{ℕ, zero, suc, _+_, _-_, _*_, _^_, _<_}
+use mathlib.Core.Path.{_≡_, sym, ap, _∙_}
 use native.Mathlib.Nat.{two-pow-succ}
 use native.Mathlib.Omega.{arith}
 use Rattle.algebra.proofs.Products.{order, times}
@@ -8,7 +8,7 @@ use Rattle.ieee.specs.Format.{Format, inf, units}
 use Rattle.ieee.specs.Exact.{ratio}
 use Rattle.ieee.specs.Round.{Way, rounded}
 use Rattle.ieee.proofs.Units.{units-at, units-lt-inv}
-use Rattle.ieee.proofs.Fixed.{Reach, below-reach, fixed-whole}
+use Rattle.ieee.proofs.Fixed.{below-reach, fixed-whole}
 
 pub held : (f : Format) (c a : ℕ) → a < 2 * 2 ^ f .frac → (m : ℕ) × (units f m ≡ a * 2 ^ c)
 held f zero a h =

@@ -1,17 +1,16 @@
 -- Rounding decided at one place: x lies between m and the next, and the answer is one of the two. Assumes nothing.
-use Prim.Native.Nat.{ℕ, zero, suc, _+_, _-_, _*_, _/_, _%_, _^_, _≤_, _<_}
-use mathlib.Core.Path.{_≡_, refl, sym, ap, _∙_, subst}
-use mathlib.Core.Bool.{Bool, true, false, cond}
-use native.Mathlib.Omega.{arith, by-contra}
+use Prim.Native.Nat.{ℕ, zero, suc, _+_, _-_, _*_, _^_, _<_}
+use mathlib.Core.Path.{_≡_, sym, ap, _∙_, subst}
+use mathlib.Core.Bool.{Bool, cond}
+use native.Mathlib.Omega.{arith}
 use lib.Arith.{digits-lt, digits-div}
-use Rattle.algebra.proofs.Products.{order}
 use Rattle.ieee.specs.Format.{Format, inf, units}
-use Rattle.ieee.specs.Exact.{Exact, Over, Under}
+use Rattle.ieee.specs.Exact.{Exact, Over}
 use Rattle.ieee.specs.Round.{Way, even, away, shorter, longer, passes, rounded}
 use Rattle.ieee.proofs.Units.{units-rise, units-suc, units-at, gap}
-use Rattle.ieee.proofs.Decide.{Reads, so, not-so, split}
-use Rattle.ieee.proofs.Sides.{Sound, over-down, under-up, apart, under-not-over}
-use Rattle.ieee.proofs.Past.{mid, Passes, Past, passes-reads, past-down, rounded-is, rounded-past, rounded-not-past}
+use Rattle.ieee.proofs.Decide.{Reads, so, not-so}
+use Rattle.ieee.proofs.Sides.{Sound, over-down, apart, under-not-over}
+use Rattle.ieee.proofs.Past.{Passes, Past, passes-reads, rounded-is, rounded-past}
 
 -- x is at least m, and below the next
 pub record Between (f : Format) (x : Exact) (m : ℕ) : Type 0 where

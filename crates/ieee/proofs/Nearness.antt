@@ -1,6 +1,6 @@
 -- Comparing with the sum of two numbers is comparing the distances to them, for ratios and for roots. Assumes nothing.
 use Prim.Native.Nat.{ℕ, suc, _+_, _-_, _*_, _≤_, _<_}
-use mathlib.Core.Path.{_≡_, subst}
+use mathlib.Core.Path.{subst}
 use mathlib.Core.Logic.{_↔_}
 use native.Mathlib.Nat.{mul-le-mul}
 use native.Mathlib.Omega.{arith, both-ways, by-contra}

@@ -1,15 +1,15 @@
 -- `past` as a statement: it falls, it holds at 0, and it fails above infinity, so `rounded` is the last number at which it holds, and the only one.
 -- Assumes nothing.
-use Prim.Native.Nat.{ℕ, zero, suc, _+_, _-_, _*_, _%_, _^_, _≤_, _<_}
-use mathlib.Core.Path.{_≡_, refl, sym, ap, _∙_, subst}
-use mathlib.Core.Bool.{Bool, true, false}
+use Prim.Native.Nat.{ℕ, zero, suc, _+_, _*_, _%_, _^_, _≤_, _<_}
+use mathlib.Core.Path.{_≡_, refl, subst}
+use mathlib.Core.Bool.{false}
 use native.Mathlib.Omega.{arith, both-ways}
 use lib.Pow.{pow-add, pow-pos}
 use Rattle.algebra.proofs.Products.{diff, order}
 use Rattle.ieee.specs.Format.{Format, inf, units}
 use Rattle.ieee.specs.Exact.{Exact, Over, Under}
-use Rattle.ieee.specs.Round.{Way, even, away, shorter, longer, passes, past, rounded, greatest}
-use Rattle.ieee.proofs.Units.{units-mono, units-lt, units-rise}
+use Rattle.ieee.specs.Round.{Way, even, away, shorter, longer, passes, past, rounded}
+use Rattle.ieee.proofs.Units.{units-mono, units-lt}
 use Rattle.ieee.proofs.Search.{Falls, Last, last-unique, greatest-last}
 use Rattle.ieee.proofs.Decide.{Reads, so, holds, fails, is-true, is-false, leb-reads, eqb-reads, and-reads, not-reads, implies-reads}
 use Rattle.ieee.proofs.Sides.{Sound, over-reads, under-reads, over-down, under-up, apart}

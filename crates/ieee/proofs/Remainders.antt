@@ -12,7 +12,7 @@ use Rattle.ieee.specs.Format.{Format, top, inf, canonical, fields, units
 use Rattle.ieee.specs.Pattern.{Pattern, minus, magnitude, signed, Kind, nan, infinite, finite, kind}
 use Rattle.ieee.specs.Rule.{distance}
 use Rattle.ieee.specs.Round.{even, exactly}
-use Rattle.ieee.specs.Fmod.{left, fmodBy, fmodOf}
+use Rattle.ieee.specs.Fmod.{divide, left, fmodOf}
 use Rattle.ieee.proofs.Units.{units-is, units-lt-inv, units-lt, units-inj}
 use Rattle.ieee.proofs.Held.{exact}
 use Rattle.ieee.proofs.Patterns.{magnitude-signed, minus-signed, pattern-signed, same-pattern, inf-below-top, Finite, finite-is}
@@ -102,7 +102,7 @@ pub record Left (f : Format) (x y r : ℕ) : Type 0 where
   pub sign : minus f r ≡ minus f x
 
 fmod-finite : (f : Format) (x y u v : ℕ) → kind f x ≡ finite u → kind f y ≡ finite (suc v) → fmodOf f x y ≡ signed f (minus f x) (exactly f (left u (suc v)))
-unfolding fmodOf fmodBy
+unfolding fmodOf divide
 fmod-finite f x y u v p q = rw (p, q)
 
 pub fmod-is : (f : Format) (x y u v : ℕ) → kind f x ≡ finite u → kind f y ≡ finite (suc v) → Left f x y (fmodOf f x y)
@@ -159,26 +159,26 @@ fmod-below : (f : Format) (x y u v : ℕ) → Pattern f x → kind f x ≡ finit
 fmod-below f x y u zero p e k l = absurd (omega arith)
 fmod-below f x y u (suc v) p e k l = fmod-only f x y (fmodOf f x y) x (fmod-is f x y u v e k) (below-left f x y u (suc v) p e k l)
 
-by-nan : (f : Format) (x : ℕ) (k : Kind) → fmodBy f x k nan ≡ canonical f
-unfolding fmodBy
-by-nan f x nan = refl
-by-nan f x infinite = refl
-by-nan f x (finite u) = refl
+pub divide-by-nan : {A : Type 0} (none same : A) (r : ℕ → ℕ → A) (k : Kind) → divide none same r k nan ≡ none
+unfolding divide
+divide-by-nan none same r nan = refl
+divide-by-nan none same r infinite = refl
+divide-by-nan none same r (finite u) = refl
 
-by-zero : (f : Format) (x : ℕ) (k : Kind) → fmodBy f x k (finite 0) ≡ canonical f
-unfolding fmodBy
-by-zero f x nan = refl
-by-zero f x infinite = refl
-by-zero f x (finite u) = refl
+pub divide-by-zero : {A : Type 0} (none same : A) (r : ℕ → ℕ → A) (k : Kind) → divide none same r k (finite 0) ≡ none
+unfolding divide
+divide-by-zero none same r nan = refl
+divide-by-zero none same r infinite = refl
+divide-by-zero none same r (finite u) = refl
 
 pub fmod-rows : (f : Format) → FmodRows f
-unfolding fmodOf fmodBy
+unfolding fmodOf divide
 fmod-rows f =
     record {
       nan-x = λ x y e. rw e;
       infinite-x = λ x y e. rw e;
-      nan-y = λ x y e. rw e (by-nan f x (kind f x));
-      zero-y = λ x y e. rw e (by-zero f x (kind f x));
+      nan-y = λ x y e. rw e (divide-by-nan _ _ _ (kind f x));
+      zero-y = λ x y e. rw e (divide-by-zero _ _ _ (kind f x));
       infinite-y = λ x y u e k. rw (e, k);
       below-y = fmod-below f;
       zero-x = λ x y v p e k. fmod-below f x y 0 (suc v) p e k (omega arith);

@@ -8,17 +8,18 @@ use lib.IntN.{ℤ, pos, _+ℤ_, _*ℤ_}
 use borrow.Author.Tests.{ltb-true, ltb-false}
 use Rattle.algebra.proofs.Products.{order}
 use Rattle.ieee.specs.Format.{Format, inf, canonical, units}
-use Rattle.ieee.specs.Pattern.{Pattern, minus, magnitude, signed, unlike, Kind, nan, infinite, finite, kind, withSign, value}
+use Rattle.ieee.specs.Pattern.{Pattern, minus, magnitude, signed, unlike, nan, infinite, finite, kind, withSign, value}
 use Rattle.ieee.specs.Rule.{distance}
 use Rattle.ieee.specs.Round.{even, exactly}
 use Rattle.ieee.specs.Whole.{whole}
-use Rattle.ieee.specs.Remquo.{rest, remquoBy, remquoOf, quotientBy, quotientOf}
+use Rattle.ieee.specs.Remquo.{rest, remquoOf, quotientOf}
 use Rattle.ieee.proofs.Units.{units-lt, units-zero, units-inj}
 use Rattle.ieee.proofs.Patterns.{same-pattern, Finite, finite-is}
 use Rattle.ieee.proofs.Signs.{signed-zero}
 use Rattle.ieee.proofs.SignedSums.{unlike-self, unlike-not, Splits, Remains, remains-splits, remains-distance, same-sign}
 use Rattle.ieee.proofs.NearestWhole.{NearestTo, whole-even-nearest, nearest-unique, nearest-within}
-use Rattle.ieee.proofs.Remainders.{Stands, difference-stands}
+use Rattle.ieee.specs.Fmod.{divide}
+use Rattle.ieee.proofs.Remainders.{Stands, difference-stands, divide-by-nan, divide-by-zero}
 
 -- x = n y + r with 2|r| ≤ |y|, and n even where they are equal; a zero has the sign of x; the quotient is n modulo 2 ^ 31, with the sign of n
 pub record NearestLeft (f : Format) (x y r : ℕ) (q : ℤ) : Type 0 where
@@ -70,11 +71,11 @@ rest-is f s m k n l a = go (ltb u w) refl
 
 -- ---- remquo
 remquo-finite : (f : Format) (x y u v : ℕ) → kind f x ≡ finite u → kind f y ≡ finite (suc v) → remquoOf f x y ≡ rest f (minus f x) u (whole even u (suc v) * suc v)
-unfolding remquoOf remquoBy
+unfolding remquoOf divide
 remquo-finite f x y u v p q = rw (p, q)
 
 quotient-finite : (f : Format) (x y u v : ℕ) → kind f x ≡ finite u → kind f y ≡ finite (suc v) → quotientOf f x y ≡ withSign (unlike (minus f x) (minus f y)) (whole even u (suc v) % 2 ^ 31)
-unfolding quotientOf quotientBy
+unfolding quotientOf divide
 quotient-finite f x y u v p q = rw (p, q)
 
 pub remquo-is : (f : Format) (x y u v : ℕ) → kind f x ≡ finite u → kind f y ≡ finite (suc v) → NearestLeft f x y (remquoOf f x y) (quotientOf f x y)
@@ -182,26 +183,14 @@ remquo-below : (f : Format) (x y u v : ℕ) → Pattern f x → kind f x ≡ fin
 remquo-below f x y u v p e k l =
     remquo-only f x y (remquoOf f x y) x (quotientOf f x y) (pos 0) (omega (arith, finite-is f y (suc v) k .counts)) (remquo-is f x y u v e k) (below-left f x y u v p e k l)
 
-by-nan : (f : Format) (x : ℕ) (s t : Bool) (k : Kind) → (remquoBy f x k nan ≡ canonical f) × (quotientBy s t k nan ≡ pos 0)
-unfolding remquoBy quotientBy
-by-nan f x s t nan = (refl, refl)
-by-nan f x s t infinite = (refl, refl)
-by-nan f x s t (finite u) = (refl, refl)
-
-by-zero : (f : Format) (x : ℕ) (s t : Bool) (k : Kind) → (remquoBy f x k (finite 0) ≡ canonical f) × (quotientBy s t k (finite 0) ≡ pos 0)
-unfolding remquoBy quotientBy
-by-zero f x s t nan = (refl, refl)
-by-zero f x s t infinite = (refl, refl)
-by-zero f x s t (finite u) = (refl, refl)
-
 pub remquo-rows : (f : Format) → RemquoRows f
-unfolding remquoOf remquoBy quotientOf quotientBy
+unfolding remquoOf quotientOf divide
 remquo-rows f =
     record {
       nan-x = λ x y e. rw e (refl, refl);
       infinite-x = λ x y e. rw e (refl, refl);
-      nan-y = λ x y e. rw e (by-nan f x (minus f x) (minus f y) (kind f x));
-      zero-y = λ x y e. rw e (by-zero f x (minus f x) (minus f y) (kind f x));
+      nan-y = λ x y e. rw e (divide-by-nan _ _ _ (kind f x), divide-by-nan _ _ _ (kind f x));
+      zero-y = λ x y e. rw e (divide-by-zero _ _ _ (kind f x), divide-by-zero _ _ _ (kind f x));
       infinite-y = λ x y u e k. rw (e, k) (refl, refl);
       below-half-y = remquo-below f;
       zero-x = λ x y v p e k. remquo-below f x y 0 v p e k (omega arith);

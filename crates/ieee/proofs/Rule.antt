@@ -1,18 +1,18 @@
 -- Rounding to the nearest, ties to even or away, meets the rule, and nothing else does. Assumes nothing.
-use Prim.Native.Nat.{ℕ, zero, suc, _+_, _-_, _*_, _/_, _%_, _^_, _≤_, _<_}
-use mathlib.Core.Path.{_≡_, refl, sym, ap, _∙_, subst}
+use Prim.Native.Nat.{ℕ, zero, suc, _+_, _-_, _*_, _%_, _^_, _≤_, _<_}
+use mathlib.Core.Path.{_≡_, sym, _∙_, subst}
 use native.Mathlib.Nat.{mul-le-mul}
 use native.Mathlib.Omega.{arith, both-ways}
 use lib.Pow.{pow-pos, pow-mono}
-use Rattle.algebra.proofs.Products.{order, cross, times, times-le, diff}
+use Rattle.algebra.proofs.Products.{order, times}
 use Rattle.algebra.proofs.Powers.{pow-diff}
 use Rattle.ieee.specs.Format.{Format, Fair, inf, units}
-use Rattle.ieee.specs.Exact.{Exact, ratio, root, Over, Under}
+use Rattle.ieee.specs.Exact.{Exact, Over, Under}
 use Rattle.ieee.specs.Round.{rounded}
-use Rattle.ieee.specs.Rule.{distance, AsNear, halfway, Nearest, Ties, to-even, to-away, tiesWay, Preferred}
+use Rattle.ieee.specs.Rule.{AsNear, halfway, Nearest, Ties, to-even, to-away, tiesWay, Preferred}
 use Rattle.ieee.proofs.Units.{units-mono, units-lt, units-lt-inv, units-rise}
 use Rattle.ieee.proofs.Decide.{split}
-use Rattle.ieee.proofs.Sides.{Sound, over-reads, under-reads, over-down, under-up, apart, under-not-over, over-not-under}
+use Rattle.ieee.proofs.Sides.{Sound, under-reads, over-down, under-up, under-not-over, over-not-under}
 use Rattle.ieee.proofs.Nearness.{near-by-sum}
 use Rattle.ieee.proofs.Past.{mid, Passes, Past, past-down, rounded-is, rounded-past, rounded-not-past, rounded-le}
 

@@ -1,15 +1,15 @@
 -- scalbn: for a finite operand the exact x times 2 ^ n, rounded once, for every n; and every other row. Assumes nothing.
-use Prim.Native.Nat.{ℕ, zero, suc, _+_, _-_, _*_, _^_, _≤_, _<_, min}
-use mathlib.Core.Path.{_≡_, refl, sym, ap, _∙_, subst}
-use mathlib.Core.Bool.{Bool, true, false}
+use Prim.Native.Nat.{ℕ, zero, suc, _*_, _^_, _≤_, _<_, min}
+use mathlib.Core.Path.{_≡_, sym, ap, _∙_, subst}
+use mathlib.Core.Bool.{Bool}
 use native.Mathlib.Nat.{two-pow-succ}
 use native.Mathlib.Omega.{arith}
-use lib.Pow.{pow-add, pow-pos, pow-mono, pow-lt}
+use lib.Pow.{pow-mono, pow-lt}
 use lib.IntN.{ℤ, pos, negsuc, _*ℤ_}
 use Rattle.algebra.proofs.Products.{order, times-le}
 use Rattle.ieee.specs.Format.{Format, Fair, inf, units, canonical}
-use Rattle.ieee.specs.Pattern.{Pattern, minus, magnitude, signed, withSign, value, Kind, nan, infinite, finite, kind}
-use Rattle.ieee.specs.Exact.{Value, dyadic, Exact, ratio, Over, Under}
+use Rattle.ieee.specs.Pattern.{Pattern, minus, signed, withSign, value, nan, infinite, finite, kind}
+use Rattle.ieee.specs.Exact.{dyadic, ratio}
 use Rattle.ieee.specs.Round.{Way, even, away, shorter, longer, Attribute, ties-to-even, wayOf, rounded, answer}
 use Rattle.ieee.specs.Rule.{to-even, Once}
 use Rattle.ieee.specs.Scalbn.{scaled, reach, clamp, scalbnBy, scalbnIn, scalbnOf, exactScalbn}

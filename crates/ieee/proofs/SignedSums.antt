@@ -1,10 +1,10 @@
 -- x = n y + r over the integers, read as a sum of whole numbers without signs. Assumes nothing.
-use Prim.Native.Nat.{ℕ, zero, suc, _+_, _*_, _<_}
+use Prim.Native.Nat.{ℕ, _+_, _*_, _<_}
 use mathlib.Core.Path.{_≡_, refl, ap, _∙_}
 use mathlib.Core.Logic.{_↔_}
 use mathlib.Core.Bool.{Bool, true, false, not}
 use native.Mathlib.Omega.{arith}
-use lib.IntN.{ℤ, pos, negℤ, _+ℤ_, _*ℤ_}
+use lib.IntN.{ℤ, pos, _+ℤ_, _*ℤ_}
 use Rattle.algebra.proofs.Integers.{up, dn, addZ, negZ, eqZ, eqZ-fact}
 use Rattle.ieee.specs.Format.{Format, units}
 use Rattle.ieee.specs.Pattern.{minus, magnitude, unlike, withSign, value}

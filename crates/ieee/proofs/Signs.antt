@@ -1,6 +1,6 @@
 -- Whole numbers with a sign: their product, their distance, and how near they are to an exact value. Assumes nothing.
 use Prim.Native.Nat.{ℕ, zero, suc, _+_, _-_, _*_, _^_, _≤_, _<_}
-use mathlib.Core.Path.{_≡_, refl, sym, ap, _∙_, subst}
+use mathlib.Core.Path.{_≡_, refl, sym, ap, _∙_}
 use mathlib.Core.Logic.{_↔_}
 use mathlib.Core.Bool.{Bool, true, false, not}
 use native.Mathlib.Nat.{mul-le-mul}
@@ -12,7 +12,7 @@ use Rattle.algebra.proofs.Roots.{sq-le, Root, root-exists}
 use Rattle.algebra.proofs.Integers.{up, dn, subZ, negZ, absZ}
 use Rattle.ieee.specs.Format.{Format, units}
 use Rattle.ieee.specs.Pattern.{minus, magnitude, unlike, withSign, value}
-use Rattle.ieee.specs.Exact.{Value, dyadic, surd, signOf, Exact, absolute}
+use Rattle.ieee.specs.Exact.{Value, dyadic, surd, signOf, absolute}
 use Rattle.ieee.specs.Rule.{distance, Within, AsNear, AsNearℤ}
 use Rattle.ieee.proofs.Units.{units-lt, units-inj}
 use Rattle.ieee.proofs.Patterns.{value-is}

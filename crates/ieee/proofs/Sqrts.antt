@@ -1,10 +1,10 @@
 -- sqrt: for a finite operand not below zero the exact root, rounded once; and every other row. Assumes nothing.
 use Prim.Native.Nat.{ℕ, zero, suc, _*_, _^_}
-use mathlib.Core.Path.{_≡_, refl, sym, ap, _∙_}
+use mathlib.Core.Path.{_≡_, refl, ap, _∙_}
 use mathlib.Core.Bool.{Bool, true, false}
 use native.Mathlib.Omega.{arith}
 use Rattle.ieee.specs.Format.{Format, Fair, low, canonical}
-use Rattle.ieee.specs.Pattern.{Pattern, minus, signed, Kind, nan, infinite, finite, kind}
+use Rattle.ieee.specs.Pattern.{Pattern, minus, Kind, nan, infinite, finite, kind}
 use Rattle.ieee.specs.Exact.{surd}
 use Rattle.ieee.specs.Round.{Attribute, ties-to-even, answer}
 use Rattle.ieee.specs.Rule.{to-even, Once}

@@ -1,11 +1,10 @@
 -- A value may be cut to the whole part of its double and one bit that says whether anything was lost. Assumes nothing.
-use Prim.Native.Nat.{ℕ, zero, suc, _+_, _*_, _≤_, _<_}
+use Prim.Native.Nat.{ℕ, suc, _+_, _*_, _≤_}
 use mathlib.Core.Path.{_≡_}
-use native.Mathlib.Nat.{mul-le-mul}
 use native.Mathlib.Omega.{arith, by-contra}
-use Rattle.algebra.proofs.Products.{order, times-le, cross}
+use Rattle.algebra.proofs.Products.{order}
 use Rattle.ieee.specs.Format.{Format}
-use Rattle.ieee.specs.Exact.{Exact, ratio, root, Over, Under}
+use Rattle.ieee.specs.Exact.{Exact, ratio, Over, Under}
 use Rattle.ieee.specs.Round.{Way, rounded}
 use Rattle.ieee.proofs.Sides.{Sound, over-down, under-up, apart, under-not-over}
 use Rattle.ieee.proofs.Alike.{Beside, same-side, Places}

@@ -1,10 +1,9 @@
 -- `units` rises: each next pattern is one gap higher. Assumes nothing.
 use Prim.Native.Nat.{ℕ, zero, suc, _+_, _-_, _*_, _/_, _%_, _^_, _≤_, _<_}
-use mathlib.Core.Path.{_≡_, refl, sym, ap, _∙_, subst}
-use native.Mathlib.Nat.{suc-mul, add-zero, mul-add, mod-lt, div-add-mod', div-eq-of-lt-le, add-mul, one-mul, two-pow-succ, mul-one, pow-zero}
+use mathlib.Core.Path.{_≡_, refl, sym, ap, _∙_}
+use native.Mathlib.Nat.{suc-mul, mul-add, mod-lt, div-add-mod', add-mul, two-pow-succ}
 use native.Mathlib.Decide.{decLe, le-ind}
 use native.Mathlib.Omega.{arith, by-contra, both-ways}
-use native.Mathlib.Numerals.{add-one}
 use lib.Arith.{digits-div, digits-mod}
 use lib.Pow.{pow-add, pow-pos, pow-mono}
 use Rattle.ieee.specs.Format.{Format, Fair, inf, units, fields}

@@ -1,5 +1,4 @@
 -- The worked cases of the scope that are proved. Assumes nothing.
-use Prim.Native.Nat.{ℕ}
 use mathlib.Core.Path.{_≡_}
 use lib.IntN.{pos, negsuc}
 use Rattle.ieee.specs.Format.{b64, b32}

@@ -1,7 +1,7 @@
 -- Fused multiply-add, x times y plus z: IEEE 754-2019, fusedMultiplyAdd, clauses 5.4.1, 6.1, 6.3 and 7.2. Assumes nothing.
 use Prim.Native.Nat.{ℕ, zero, suc, _*_, _^_}
 use mathlib.Core.Bool.{Bool, true, false, cond}
-use lib.IntN.{ℤ, pos, _+ℤ_, _*ℤ_}
+use lib.IntN.{pos, _+ℤ_, _*ℤ_}
 use Rattle.ieee.specs.Format.{Format, low, inf, canonical}
 use Rattle.ieee.specs.Pattern.{Kind, nan, infinite, finite, kind, minus, signed, unlike, withSign, value}
 use Rattle.ieee.specs.Exact.{Value, dyadic}

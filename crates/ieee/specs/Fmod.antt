@@ -5,20 +5,19 @@ use Rattle.ieee.specs.Pattern.{Kind, nan, infinite, finite, kind, minus,
 use Rattle.ieee.specs.Round.{shorter, rounded, exactly}
 use Rattle.ieee.specs.Whole.{whole}
 
+-- the rows of every remainder, by the kinds of x and y: none where there is no remainder, same where y is infinite, and else r of |x| and |y|
+unfoldable pub divide : {A : Type 0} → A → A → (ℕ → ℕ → A) → Kind → Kind → A
+divide none same r nan l = none
+divide none same r infinite l = none
+divide none same r (finite u) nan = none
+divide none same r (finite u) infinite = same
+divide none same r (finite u) (finite zero) = none
+divide none same r (finite u) (finite (suc v)) = r u (suc v)
+
 -- x minus trunc (x / y) times y, of magnitudes
 abbrev pub left : ℕ → ℕ → ℕ
 left u v = u - whole shorter u v * v
 
--- by the kinds of x and y
-unfoldable pub fmodBy : Format → ℕ → Kind → Kind → ℕ
-unfolding rounded
-fmodBy f x nan l = canonical f
-fmodBy f x infinite l = canonical f
-fmodBy f x (finite u) nan = canonical f
-fmodBy f x (finite u) infinite = x
-fmodBy f x (finite u) (finite zero) = canonical f
-fmodBy f x (finite u) (finite (suc v)) = signed f (minus f x) (exactly f (left u (suc v)))
-
 unfoldable pub fmodOf : Format → ℕ → ℕ → ℕ
-unfolding fmodBy kind
-fmodOf f x y = fmodBy f x (kind f x) (kind f y)
+unfolding divide kind rounded
+fmodOf f x y = divide (canonical f) x (λ u v. signed f (minus f x) (exactly f (left u v))) (kind f x) (kind f y)

@@ -1,5 +1,5 @@
 -- The numbers of the two formats, as the scope lists them. Assumes nothing.
-use Prim.Native.Nat.{ℕ, _+_, _-_, _*_, _^_}
+use Prim.Native.Nat.{ℕ, _-_, _*_, _^_}
 use mathlib.Core.Path.{_≡_}
 use Rattle.ieee.specs.Format.{Format, b64, b32, bias, low, units, canonical}
 use Rattle.ieee.specs.Rule.{halfway}

@@ -1,6 +1,6 @@
 -- What a pattern stands for: a sign, and a NaN, an infinity or a whole number of smallest units. Assumes nothing.
-use Prim.Native.Nat.{ℕ, zero, suc, _+_, _*_, _%_, _<_}
-use mathlib.Core.Bool.{Bool, true, false, not, Bool·beq, cond}
+use Prim.Native.Nat.{ℕ, _+_, _*_, _%_, _<_}
+use mathlib.Core.Bool.{Bool, not, Bool·beq, cond}
 use lib.Dec.{leb, ltb, eqb}
 use lib.IntN.{ℤ, pos, negℤ}
 use Rattle.ieee.specs.Format.{Format, top, inf, units}

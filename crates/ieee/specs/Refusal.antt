@@ -17,10 +17,13 @@ given (r ∷ rs) = cond (r .reason) (r .number) (given rs)
 pub data Answer : Type 0 where
   done refused : ℕ → Answer
 
+-- its two parts: the number, 0 where it is done, and the value, 0 where it is refused
+abbrev pub partsOf : Answer → ℕ × ℕ
+partsOf (done v) = (0, v)
+partsOf (refused k) = (k, 0)
+
 abbrev pub numberOf : Answer → ℕ
-numberOf (done v) = 0
-numberOf (refused k) = k
+numberOf a = partsOf a .0
 
 abbrev pub valueOf : Answer → ℕ
-valueOf (done v) = v
-valueOf (refused k) = 0
+valueOf a = partsOf a .1

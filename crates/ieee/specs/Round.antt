@@ -1,5 +1,5 @@
 -- Rounding an exact value to a pattern, by the attributes of IEEE 754-2019, clause 4.3. Assumes nothing.
-use Prim.Native.Nat.{ℕ, zero, suc, _+_, _-_, _*_, _/_, _%_, _^_, _≤_, _<_}
+use Prim.Native.Nat.{ℕ, zero, suc, _+_, _*_, _%_, _^_}
 use mathlib.Core.Bool.{Bool, true, false, not, _&&_, _||_, cond}
 use lib.Dec.{leb, eqb}
 use Rattle.ieee.specs.Format.{Format, inf, units}
