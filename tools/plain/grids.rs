@@ -1,0 +1,143 @@
+// Every pair of operand classes, laid out once for each operation.
+
+use crate::draws_several::{far_tail_above, longest_gap};
+use crate::format::Format;
+use crate::operands::{of_class, signed, CLASSES};
+use crate::operations::{Field, Operation, Task};
+use crate::random::Random;
+
+/// Requests that every run contains, whatever its count.
+pub fn grid(operation: &Operation, random: &mut Random) -> Vec<Vec<Field>> {
+    let format = operation.format;
+    match operation.task {
+        Task::Sqrt | Task::Floor | Task::Trunc => singles(format, random),
+        Task::Scalbn => scalings(format, random),
+        Task::Fma => triples(format, random),
+        Task::Fmod | Task::Remquo => pairs(format, random),
+        Task::Reduce => reductions(format.width),
+        Task::List => lists(format, random),
+    }
+}
+
+fn singles(format: Format, random: &mut Random) -> Vec<Vec<Field>> {
+    let places = 0..3 * CLASSES;
+    places.map(|place| vec![Field::Word(of_class(format, place % CLASSES, random))]).collect()
+}
+
+fn pairs(format: Format, random: &mut Random) -> Vec<Vec<Field>> {
+    let mut requests = Vec::new();
+    for place in 0..CLASSES * CLASSES {
+        let x = of_class(format, place / CLASSES, random);
+        let y = of_class(format, place % CLASSES, random);
+        requests.push(vec![Field::Word(x), Field::Word(y)]);
+    }
+    requests
+}
+
+/// One layer of the triples; all triples of zeros, ones and infinities, where
+/// the sign rules and the sums without an answer are; and sums a hair's breadth
+/// from a tie, beside an even and an odd number.
+fn triples(format: Format, random: &mut Random) -> Vec<Vec<Field>> {
+    let layer = (0..CLASSES * CLASSES).map(|place| triple(format, place, random));
+    let mut requests: Vec<Vec<Field>> = layer.collect();
+    let plain = [0, format.one(), format.infinity()];
+    let special = |place: usize| signed(format, place % 2 == 1, plain[place / 2 % 3]);
+    for place in 0..216 {
+        let places = [place / 36, place / 6 % 6, place % 6];
+        requests.push(places.iter().map(|one| Field::Word(special(*one))).collect());
+    }
+    for place in 0..40 {
+        let z = signed(format, place % 2 == 1, format.one() + place / 2 % 2);
+        let power = longest_gap(format) - (place / 4 % 5) as u32;
+        requests.push(far_tail_above(format, random, z, power, 1).map(Field::Word).to_vec());
+    }
+    requests
+}
+
+/// How many triples of classes there are.
+pub const TRIPLES: usize = CLASSES * CLASSES * CLASSES;
+
+/// Triples in layers of CLASSES^2. Within a layer any two classes fix the
+/// third, so one layer already shows every pair in each two places; all
+/// layers together show every triple.
+pub fn triple(format: Format, place: usize, random: &mut Random) -> Vec<Field> {
+    let (layer, square) = (place / (CLASSES * CLASSES), place % (CLASSES * CLASSES));
+    let (first, second) = (square / CLASSES, square % CLASSES);
+    let third = (first + second + layer) % CLASSES;
+    let classes = [first, second, third];
+    classes.iter().map(|class| Field::Word(of_class(format, *class, random))).collect()
+}
+
+/// Every class with every power at which some class meets a boundary.
+fn scalings(format: Format, random: &mut Random) -> Vec<Vec<Field>> {
+    let (unit, bias) = (format.unit_shift() as i32, format.bias() as i32);
+    let digits = format.fraction_bits as i32;
+    let powers = [
+        i32::MIN,
+        i32::MIN + 1,
+        -unit - bias - 2,
+        -unit - bias - 1,
+        -unit - bias,
+        -unit - 1,
+        -unit,
+        -bias,
+        -digits - 1,
+        -digits,
+        -1,
+        0,
+        1,
+        digits,
+        bias,
+        bias + 1,
+        2 * bias,
+        unit + bias,
+        unit + bias + 1,
+        i32::MAX - 1,
+        i32::MAX,
+    ];
+    let mut requests = Vec::new();
+    for class in 0..CLASSES {
+        for n in powers {
+            requests.push(vec![Field::Word(of_class(format, class, random)), Field::Signed(n)]);
+        }
+    }
+    requests
+}
+
+/// Both sides of every refusal of the reduction.
+fn reductions(width: u32) -> Vec<Vec<Field>> {
+    let (bound, most) = ((1u64 << (width - 2)) - 1, u64::MAX >> (64 - width));
+    let divisors = [0, 1, 2, 3, 7, 8, 9, 1 << (width - 3), bound - 1, bound, bound + 1, most];
+    let mut requests = Vec::new();
+    for y in divisors {
+        let double = y.wrapping_mul(2) & most;
+        let around = [0, 1, y.wrapping_sub(1) & most, y, double.wrapping_sub(1) & most];
+        for x in around.into_iter().chain([double, double.wrapping_add(1) & most, most]) {
+            for shift in [0, 1, 4096, 4097, u32::MAX] {
+                requests.push(vec![Field::Word(x), Field::Unsigned(shift), Field::Word(y)]);
+            }
+        }
+    }
+    requests
+}
+
+/// Every operation number of interest with every pair of lengths that tells
+/// the refusals apart; the places run through the classes.
+fn lists(format: Format, random: &mut Random) -> Vec<Vec<Field>> {
+    let mut requests = Vec::new();
+    let mut class = 0;
+    for number in [0, 1, 2, 3, 4, u32::MAX] {
+        for length in 0..13usize {
+            for other in [length, length + 1, length.saturating_sub(1), 12 - length] {
+                let input = (0..length).map(|_| {
+                    class += 1;
+                    of_class(format, class, random)
+                });
+                let input = Field::Words(input.collect());
+                let output = Field::Words((0..other).map(|_| random.word()).collect());
+                requests.push(vec![Field::Unsigned(number), input, output]);
+            }
+        }
+    }
+    requests
+}

@@ -1,0 +1,194 @@
+// The plain program: an independent judge of the operations. Commands and help.
+
+mod answers;
+mod big;
+mod cases;
+mod commands;
+mod draws_several;
+mod draws_single;
+mod format;
+mod grids;
+mod lines;
+mod operands;
+mod operations;
+mod random;
+mod rounding;
+mod witness;
+
+use commands::Trouble;
+use operations::{Operation, OPERATIONS};
+use std::io::{BufWriter, Write};
+use std::process::ExitCode;
+
+const HELP: &str = "\
+plain-program: answers and checks the operations by exact whole numbers
+
+  answer FILE|-                answer every request line
+  check FILE|-                 check every claim
+  cases --seed N --count K [--operation OP]
+                               print boundary cases with their answers
+  witness --seed N --count K   hold the judge against the C library
+
+Each command has --help. Lines are those of docs/LINES.md.
+Exit status: 0 all well, 1 something found, 2 bad usage or unreadable file.
+";
+
+const ANSWER_HELP: &str = "\
+answer FILE|-
+
+Writes every request line of FILE (- is standard input) with its answer.
+A claim after -> is passed over, and so are comments and empty lines.
+A malformed line is reported on standard error as FILE:LINE: error: ...
+Exit status: 0, or 1 if a line was malformed, or 2 for bad usage.
+";
+
+const CHECK_HELP: &str = "\
+check FILE|-
+
+Checks every claim of FILE (- is standard input) and prints each disagreement
+with its line number and both answers, then counts for each operation. A
+request without a claim counts as malformed. Answers are compared bit for bit.
+Exit status: 0, or 1 for a disagreement or malformed line, or 2 for bad usage.
+";
+
+const CASES_HELP: &str = "\
+cases --seed N --count K [--operation OP]
+
+Prints request lines with answers for every operation, or for OP alone: first
+a grid (every pair of operand classes, for fma in each two places and further
+triples as far as K reaches; the thresholds of scalbn; both sides of every
+refusal), then K drawn boundary cases. So each operation has at least K lines.
+No request comes twice. The same seed and count give the same lines.
+N is a decimal number below 2^64, K at least 1.
+Exit status: 0, or 2 for bad usage.
+";
+
+const WITNESS_HELP: &str = "\
+witness --seed N --count K
+
+Holds K requests for each operation against a second computation: the C
+library's functions (values only, any two NaNs equal, remquo's quotient by
+sign and modulo 8), for the reduction doubling step by step, for the list call
+the C library in each place. Also checks the program's own division.
+N is a decimal number below 2^64, K at least 1.
+Exit status: 0, or 1 for a disagreement, or 2 for bad usage.
+";
+
+/// How a command ended, short of trouble: whether all was well.
+type Outcome = Result<bool, Trouble>;
+
+enum Ending {
+    Done(Outcome),
+    Help(&'static str),
+    Usage(String),
+}
+
+fn main() -> ExitCode {
+    let arguments: Vec<String> =
+        std::env::args_os().skip(1).map(|one| one.to_string_lossy().into_owned()).collect();
+    let texts: Vec<&str> = arguments.iter().map(String::as_str).collect();
+    match run(&texts) {
+        Ending::Done(Ok(true)) => ExitCode::SUCCESS,
+        Ending::Done(Ok(false)) => ExitCode::from(1),
+        Ending::Done(Err(Trouble::Reading(what))) => complain(&what),
+        Ending::Done(Err(Trouble::Writing(error))) => complain(&format!("cannot write: {error}")),
+        Ending::Help(text) => match std::io::stdout().write_all(text.as_bytes()) {
+            Ok(()) => ExitCode::SUCCESS,
+            Err(error) => complain(&format!("cannot write: {error}")),
+        },
+        Ending::Usage(what) => complain(&format!("{what}; see --help")),
+    }
+}
+
+fn complain(what: &str) -> ExitCode {
+    eprintln!("plain-program: error: {what}");
+    ExitCode::from(2)
+}
+
+fn run(arguments: &[&str]) -> Ending {
+    let (command, rest) = match arguments {
+        [] => return Ending::Usage("expected a command".to_string()),
+        ["--help" | "-h" | "help", ..] => return Ending::Help(HELP),
+        [command, rest @ ..] => (*command, rest),
+    };
+    let help = match command {
+        "answer" => ANSWER_HELP,
+        "check" => CHECK_HELP,
+        "cases" => CASES_HELP,
+        "witness" => WITNESS_HELP,
+        _ => return Ending::Usage(format!("no command \"{command}\"")),
+    };
+    if rest.iter().any(|one| matches!(*one, "--help" | "-h")) {
+        return Ending::Help(help);
+    }
+    match command {
+        "answer" | "check" => on_file(command, rest),
+        _ => on_seed(command, rest),
+    }
+}
+
+fn on_file(command: &str, rest: &[&str]) -> Ending {
+    let [path] = rest else {
+        return Ending::Usage(format!("{command} takes one FILE, or - for standard input"));
+    };
+    with_output(|out| match command {
+        "answer" => commands::answer(path, out),
+        _ => commands::check(path, out),
+    })
+}
+
+fn on_seed(command: &str, rest: &[&str]) -> Ending {
+    let options = match read_options(command, rest) {
+        Ok(options) => options,
+        Err(what) => return Ending::Usage(what),
+    };
+    let (seed, count, chosen) = options;
+    with_output(|out| match command {
+        "cases" => Ok(cases::print_cases(seed, count, &chosen, out).map(|()| true)?),
+        _ => Ok(witness::run(seed, count, out).map(|found| found == 0)?),
+    })
+}
+
+fn with_output(command: impl FnOnce(&mut dyn Write) -> Outcome) -> Ending {
+    let mut out = BufWriter::new(std::io::stdout());
+    let outcome = command(&mut out);
+    // A disagreement that could not be written must not pass as all well.
+    match out.flush() {
+        Ok(()) => Ending::Done(outcome),
+        Err(error) => Ending::Done(outcome.and(Err(Trouble::Writing(error)))),
+    }
+}
+
+/// Seed, count and the operations asked for.
+fn read_options(
+    command: &str,
+    rest: &[&str],
+) -> Result<(u64, usize, Vec<&'static Operation>), String> {
+    let (mut seed, mut count, mut chosen) = (None, None, None);
+    for pair in rest.chunks(2) {
+        let [option, value] = pair else {
+            return Err(format!("{command}: {} needs a value", pair[0]));
+        };
+        let number = || {
+            let known = value.bytes().all(|byte| byte.is_ascii_digit());
+            let read = value.parse::<u64>().ok().filter(|_| known);
+            read.ok_or_else(|| format!("{option} needs a decimal number, not \"{value}\""))
+        };
+        match *option {
+            "--seed" => seed = Some(number()?),
+            "--count" => count = Some(number()?),
+            "--operation" if command == "cases" => {
+                let found = operations::find(value);
+                chosen = Some(found.ok_or_else(|| format!("no operation \"{value}\""))?);
+            }
+            _ => return Err(format!("{command}: no option \"{option}\"")),
+        }
+    }
+    let seed = seed.ok_or_else(|| format!("{command} needs --seed N"))?;
+    let count = count.ok_or_else(|| format!("{command} needs --count K"))?;
+    if count == 0 {
+        return Err("--count must be at least 1".to_string());
+    }
+    let all = || OPERATIONS.iter().collect();
+    Ok((seed, count as usize, chosen.map_or_else(all, |one| vec![one])))
+}

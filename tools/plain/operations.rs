@@ -1,0 +1,106 @@
+// The operations by name, with the kinds of their operands and answers.
+
+use crate::format::{Format, WIDTH_32, WIDTH_64};
+
+#[derive(Clone, Copy, Debug, PartialEq, Eq)]
+pub enum Task {
+    Sqrt,
+    Floor,
+    Trunc,
+    Scalbn,
+    Fma,
+    Fmod,
+    Remquo,
+    Reduce,
+    List,
+}
+
+/// What stands at one place of a line.
+#[derive(Clone, Copy, Debug, PartialEq, Eq)]
+pub enum Kind {
+    Word,
+    Signed,
+    Unsigned,
+    Words,
+    Status,
+}
+
+#[derive(Clone, Debug, PartialEq, Eq)]
+pub enum Field {
+    Word(u64),
+    Signed(i32),
+    Unsigned(u32),
+    Words(Vec<u64>),
+    Status(Status),
+}
+
+/// One bit for each word of STATUS_WORDS, the first word lowest.
+#[derive(Clone, Copy, Debug, PartialEq, Eq)]
+pub struct Status(pub u8);
+
+pub const STATUS_WORDS: [&str; 2] = ["INVALID", "INEXACT"];
+pub const OK: Status = Status(0);
+pub const INVALID: Status = Status(1);
+pub const INEXACT: Status = Status(2);
+
+pub struct Operation {
+    pub name: &'static str,
+    pub task: Task,
+    pub format: Format,
+    pub shape: &'static str,
+}
+
+const fn operation(
+    name: &'static str,
+    task: Task,
+    format: Format,
+    shape: &'static str,
+) -> Operation {
+    Operation { name, task, format, shape }
+}
+
+pub static OPERATIONS: [Operation; 16] = [
+    operation("sqrt64", Task::Sqrt, WIDTH_64, "X -> R STATUS"),
+    operation("sqrt32", Task::Sqrt, WIDTH_32, "X -> R STATUS"),
+    operation("floor64", Task::Floor, WIDTH_64, "X -> R STATUS"),
+    operation("floor32", Task::Floor, WIDTH_32, "X -> R STATUS"),
+    operation("trunc64", Task::Trunc, WIDTH_64, "X -> R STATUS"),
+    operation("trunc32", Task::Trunc, WIDTH_32, "X -> R STATUS"),
+    operation("scalbn64", Task::Scalbn, WIDTH_64, "X N -> R"),
+    operation("scalbn32", Task::Scalbn, WIDTH_32, "X N -> R"),
+    operation("fma64", Task::Fma, WIDTH_64, "X Y Z -> R"),
+    operation("fma32", Task::Fma, WIDTH_32, "X Y Z -> R"),
+    operation("fmod64", Task::Fmod, WIDTH_64, "X Y -> R"),
+    operation("fmod32", Task::Fmod, WIDTH_32, "X Y -> R"),
+    operation("remquo64", Task::Remquo, WIDTH_64, "X Y -> R QUOTIENT"),
+    operation("reduce64", Task::Reduce, WIDTH_64, "X SHIFT Y -> REFUSAL R"),
+    operation("reduce32", Task::Reduce, WIDTH_32, "X SHIFT Y -> REFUSAL R"),
+    operation("list64", Task::List, WIDTH_64, "OP INPUT OUTPUT -> REFUSAL OUTPUT"),
+];
+
+pub fn find(name: &str) -> Option<&'static Operation> {
+    OPERATIONS.iter().find(|operation| operation.name == name)
+}
+
+impl Operation {
+    pub fn operand_kinds(&self) -> &'static [Kind] {
+        match self.task {
+            Task::Sqrt | Task::Floor | Task::Trunc => &[Kind::Word],
+            Task::Scalbn => &[Kind::Word, Kind::Signed],
+            Task::Fma => &[Kind::Word, Kind::Word, Kind::Word],
+            Task::Fmod | Task::Remquo => &[Kind::Word, Kind::Word],
+            Task::Reduce => &[Kind::Word, Kind::Unsigned, Kind::Word],
+            Task::List => &[Kind::Unsigned, Kind::Words, Kind::Words],
+        }
+    }
+
+    pub fn answer_kinds(&self) -> &'static [Kind] {
+        match self.task {
+            Task::Sqrt | Task::Floor | Task::Trunc => &[Kind::Word, Kind::Status],
+            Task::Scalbn | Task::Fma | Task::Fmod => &[Kind::Word],
+            Task::Remquo => &[Kind::Word, Kind::Signed],
+            Task::Reduce => &[Kind::Unsigned, Kind::Word],
+            Task::List => &[Kind::Unsigned, Kind::Words],
+        }
+    }
+}

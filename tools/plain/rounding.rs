@@ -1,0 +1,65 @@
+// The nearest pattern to an exact value, found by a search among neighbours.
+
+use crate::big::Big;
+use crate::format::Format;
+use std::cmp::Ordering;
+
+/// The greatest finite magnitude that is not above the value. Magnitudes are
+/// ordered as their patterns are, so halving the range of patterns finds it.
+/// `not_above` must hold for zero and, once it fails, fail from there on.
+fn greatest(format: Format, not_above: impl Fn(u64) -> bool) -> u64 {
+    let (mut low, mut high) = (0, format.infinity());
+    while high - low > 1 {
+        let middle = low + (high - low) / 2;
+        if not_above(middle) {
+            low = middle;
+        } else {
+            high = middle;
+        }
+    }
+    low
+}
+
+/// Of two neighbours, the one on the nearer side; the even one on a tie.
+fn choose(low: u64, low_to_value_against_value_to_high: Ordering) -> u64 {
+    match low_to_value_against_value_to_high {
+        Ordering::Less => low,
+        Ordering::Greater => low + 1,
+        Ordering::Equal => low + (low & 1),
+    }
+}
+
+/// The magnitude nearest to value / 2^shift smallest units, ties to even.
+pub fn nearest(format: Format, value: &Big, shift: u32) -> u64 {
+    if *value >= format.scaled_overflow(shift) {
+        return format.infinity();
+    }
+    let low = greatest(format, |pattern| format.scaled_units(pattern, shift) <= *value);
+    if low == format.largest_finite() {
+        return low;
+    }
+    let below = value.sub(&format.scaled_units(low, shift));
+    let above = format.scaled_units(low + 1, shift).sub(value);
+    choose(low, below.cmp(&above))
+}
+
+/// The magnitude nearest to the square root of a magnitude, ties to even.
+pub fn nearest_root(format: Format, magnitude: u64) -> u64 {
+    // r units is the root of x units when r * r = x * 2^unit_shift.
+    let square = format.scaled_units(magnitude, format.unit_shift());
+    let low = greatest(format, |pattern| {
+        let units = format.units(pattern);
+        units.mul(&units) <= square
+    });
+    // The root is past the midpoint (u + v) / 2 when four times its square is
+    // past (u + v)^2. A root is far below overflow, so v is finite.
+    let ends = format.units(low).add(&format.units(low + 1));
+    choose(low, square.shl(2).cmp(&ends.mul(&ends)))
+}
+
+/// The pattern of a magnitude known to be a number of the format.
+pub fn exact(format: Format, units: &Big) -> u64 {
+    let pattern = nearest(format, units, 0);
+    assert!(format.units(pattern) == *units, "an exact result is not a number of the format");
+    pattern
+}
