@@ -2,12 +2,13 @@
 use Prim.Native.Nat.{ℕ, suc, _+_, _-_, _*_, _%_, _^_, _≤_, _<_}
 use mathlib.Core.Path.{_≡_}
 use mathlib.Core.Logic.{_↔_}
-use mathlib.Core.Bool.{Bool}
+use mathlib.Core.Bool.{Bool, true, false}
 use lib.IntN.{ℤ, pos, negsuc, natAbs, _-ℤ_, _*ℤ_}
+use lib.Signed.{_≤ℤ_}
 use Rattle.ieee.specs.Format.{Format, inf, units}
 use Rattle.ieee.specs.Pattern.{Pattern, minus, magnitude, value}
 use Rattle.ieee.specs.Exact.{Value, dyadic, surd, signOf, absolute, Exact, ratio, root, Over, Under}
-use Rattle.ieee.specs.Round.{Way, even, away, shorter, longer, Attribute, ties-to-even, ties-to-away}
+use Rattle.ieee.specs.Round.{Way, even, away, shorter, longer, Attribute, ties-to-even, ties-to-away, toward-zero, toward-positive, toward-negative}
 
 -- ---- distances
 abbrev pub distance : ℕ → ℕ → ℕ
@@ -84,3 +85,47 @@ Rule f even x m = Nearest f to-even x m
 Rule f away x m = Nearest f to-away x m
 Rule f shorter x m = Toward f x m
 Rule f longer x m = Outward f x m
+
+-- ---- answers under every attribute
+-- an exact value is not above a whole number with a sign, and not below it; the root by squares
+abbrev pub NotAbove : Value → ℤ → Type 0
+NotAbove (dyadic z k) u = z ≤ℤ (u *ℤ pos (2 ^ k))
+NotAbove (surd n) (pos u) = n ≤ u * u
+NotAbove (surd n) (negsuc u) = ⊥
+
+abbrev pub NotBelow : Value → ℤ → Type 0
+NotBelow (dyadic z k) u = (u *ℤ pos (2 ^ k)) ≤ℤ z
+NotBelow (surd n) (pos u) = u * u ≤ n
+NotBelow (surd n) (negsuc u) = Unit {0}
+
+-- toward zero: the value's sign, and of the finite magnitudes that are at most the value's the greatest
+pub record TowardZero (f : Format) (s : Bool) (v : Value) (r : ℕ) : Type 0 where
+  pub pattern : Pattern f r
+  pub sign : minus f r ≡ signOf s v
+  pub toward : Toward f (absolute v) (magnitude f r)
+
+-- toward positive: the least number that is not below the value, or +infinity where no finite one is
+pub record TowardPositive (f : Format) (s : Bool) (v : Value) (r : ℕ) : Type 0 where
+  pub pattern : Pattern f r
+  pub within : magnitude f r ≤ inf f
+  pub sign : minus f r ≡ signOf s v
+  pub high : magnitude f r < inf f → NotAbove v (value f r)
+  pub least : (q : ℕ) → Pattern f q → magnitude f q < inf f → NotAbove v (value f q) → (magnitude f r < inf f) × (value f r ≤ℤ value f q)
+  pub infinity : magnitude f r ≡ inf f → minus f r ≡ false
+
+-- toward negative: the greatest number that is not above the value, or -infinity where no finite one is
+pub record TowardNegative (f : Format) (s : Bool) (v : Value) (r : ℕ) : Type 0 where
+  pub pattern : Pattern f r
+  pub within : magnitude f r ≤ inf f
+  pub sign : minus f r ≡ signOf s v
+  pub low : magnitude f r < inf f → NotBelow v (value f r)
+  pub most : (q : ℕ) → Pattern f q → magnitude f q < inf f → NotBelow v (value f q) → (magnitude f r < inf f) × (value f q ≤ℤ value f r)
+  pub infinity : magnitude f r ≡ inf f → minus f r ≡ true
+
+-- the rule for answers, by the attribute
+abbrev pub RuleIn : Format → Attribute → Bool → Value → ℕ → Type 0
+RuleIn f ties-to-even s v r = Once f to-even s v r
+RuleIn f ties-to-away s v r = Once f to-away s v r
+RuleIn f toward-zero s v r = TowardZero f s v r
+RuleIn f toward-positive s v r = TowardPositive f s v r
+RuleIn f toward-negative s v r = TowardNegative f s v r
