@@ -10,7 +10,7 @@ use Rattle.algebra.proofs.Integers.{addZ, negZ, eqZ-fact}
 use Rattle.ieee.specs.Format.{Format, Fair, low, inf, units, canonical}
 use Rattle.ieee.specs.Pattern.{Pattern, minus, magnitude, signed, unlike, withSign, value, Kind, nan, infinite, finite, kind}
 use Rattle.ieee.specs.Exact.{dyadic}
-use Rattle.ieee.specs.Round.{Attribute, ties-to-even, answer}
+use Rattle.ieee.specs.Round.{Attribute, ties-to-even, ties-to-away, toward-zero, toward-positive, toward-negative, answer}
 use Rattle.ieee.specs.Rule.{to-even, Once}
 use Rattle.ieee.specs.Fma.{times, sumOf, zeroSum, plusBy, fmaIn, fmaOf, exactFma, zeroSign}
 use Rattle.ieee.proofs.Patterns.{value-is, finite-is, infinity-is, signed-is}
@@ -85,6 +85,9 @@ module _ (f : Format) where
       ∙ (λ i. withSign (unlike (minus f x) (minus f y)) (n i) +ℤ withSign (minus f z) (z0 i))
       ∙ (λ i. signed-zero (unlike (minus f x) (minus f y)) i +ℤ signed-zero (minus f z) i)
 
+  fma-zeros : (a : Attribute) (x y z u v : ℕ) → kind f x ≡ finite u → kind f y ≡ finite v → u * v ≡ 0 → kind f z ≡ finite 0 → fmaIn f a x y z ≡ signed f (zeroSign f a x y z) 0
+  fma-zeros a x y z u v p q n r = fma-zero a x y z u v 0 p q r (zeros-add x y z u v p q n r)
+
   cancelled : (x y z u v w : ℕ) → kind f x ≡ finite u → kind f y ≡ finite v → kind f z ≡ finite w → 0 < u * v
       → value f x *ℤ value f y +ℤ value f z *ℤ pos (2 ^ low f) ≡ pos 0 → unlike (unlike (minus f x) (minus f y)) (minus f z) ≡ true
   cancelled x y z u v w p q r l e = cancels (unlike (minus f x) (minus f y)) (minus f z) (u * v) (w * 2 ^ low f) l (numerator x y z u v w p q r ∙ e)
@@ -109,6 +112,32 @@ module _ (f : Format) where
   unfolding fmaIn
   by-product a x y z e h = λ i. plusBy f a (unlike (minus f x) (minus f y)) (e i) (minus f z) (h i)
 
+-- the product is infinite: an infinity times an infinity, or times a number that is not zero
+pub data InfiniteProduct (f : Format) (x y : ℕ) : Type 0 where
+  of-both : kind f x ≡ infinite → kind f y ≡ infinite → InfiniteProduct f x y
+  of-first : {v : ℕ} → kind f x ≡ infinite → kind f y ≡ finite (suc v) → InfiniteProduct f x y
+  of-second : {u : ℕ} → kind f x ≡ finite (suc u) → kind f y ≡ infinite → InfiniteProduct f x y
+
+times-infinite : (f : Format) (x y : ℕ) → InfiniteProduct f x y → times (kind f x) (kind f y) ≡ infinite
+times-infinite f x y (of-both h l) = λ i. times (h i) (l i)
+times-infinite f x y (of-first h l) = λ i. times (h i) (l i)
+times-infinite f x y (of-second h l) = λ i. times (h i) (l i)
+
+-- the sign of a product, and whether z has another
+abbrev pub productSign : Format → ℕ → ℕ → Bool
+productSign f x y = unlike (minus f x) (minus f y)
+
+abbrev pub against : Format → ℕ → ℕ → ℕ → Bool
+against f x y z = unlike (productSign f x y) (minus f z)
+
+-- rounding toward negative
+abbrev pub Down : Attribute → Type 0
+Down ties-to-even = ⊥
+Down ties-to-away = ⊥
+Down toward-zero = ⊥
+Down toward-positive = ⊥
+Down toward-negative = Unit {0}
+
 -- every other row, under any attribute
 pub record FmaRows (f : Format) (a : Attribute) (x y z : ℕ) : Type 0 where
   pub nan-first : kind f x ≡ nan → fmaIn f a x y z ≡ canonical f
@@ -116,46 +145,60 @@ pub record FmaRows (f : Format) (a : Attribute) (x y z : ℕ) : Type 0 where
   pub nan-third : kind f z ≡ nan → fmaIn f a x y z ≡ canonical f
   pub zero-by-infinity : kind f x ≡ finite 0 → kind f y ≡ infinite → fmaIn f a x y z ≡ canonical f
   pub infinity-by-zero : kind f x ≡ infinite → kind f y ≡ finite 0 → fmaIn f a x y z ≡ canonical f
-  pub opposite-infinities : times (kind f x) (kind f y) ≡ infinite → kind f z ≡ infinite → unlike (unlike (minus f x) (minus f y)) (minus f z) ≡ true → fmaIn f a x y z ≡ canonical f
-  pub like-infinities : times (kind f x) (kind f y) ≡ infinite → kind f z ≡ infinite → unlike (unlike (minus f x) (minus f y)) (minus f z) ≡ false → fmaIn f a x y z ≡ signed f (unlike (minus f x) (minus f y)) (inf f)
-  pub infinite-product : (w : ℕ) → times (kind f x) (kind f y) ≡ infinite → kind f z ≡ finite w → fmaIn f a x y z ≡ signed f (unlike (minus f x) (minus f y)) (inf f)
-  pub infinite-third : (p : ℕ) → Pattern f z → times (kind f x) (kind f y) ≡ finite p → kind f z ≡ infinite → fmaIn f a x y z ≡ z
+  pub opposite-infinities : InfiniteProduct f x y → kind f z ≡ infinite → against f x y z ≡ true → fmaIn f a x y z ≡ canonical f
+  pub like-infinities : InfiniteProduct f x y → kind f z ≡ infinite → against f x y z ≡ false → fmaIn f a x y z ≡ signed f (productSign f x y) (inf f)
+  pub infinite-product : (w : ℕ) → InfiniteProduct f x y → kind f z ≡ finite w → fmaIn f a x y z ≡ signed f (productSign f x y) (inf f)
+  pub infinite-third : (u v : ℕ) → Pattern f z → kind f x ≡ finite u → kind f y ≡ finite v → kind f z ≡ infinite → fmaIn f a x y z ≡ z
+  -- a zero product leaves z; with a zero z, like signs keep theirs, and unlike signs give +0, or -0 when rounding down
   pub zero-product : (u v w : ℕ) → Pattern f z → kind f x ≡ finite u → kind f y ≡ finite v → u * v ≡ 0 → kind f z ≡ finite (suc w) → fmaIn f a x y z ≡ z
-  pub zeros : (u v : ℕ) → kind f x ≡ finite u → kind f y ≡ finite v → u * v ≡ 0 → kind f z ≡ finite 0 → fmaIn f a x y z ≡ signed f (zeroSign f a x y z) 0
+  pub like-zeros : (u v : ℕ) → kind f x ≡ finite u → kind f y ≡ finite v → u * v ≡ 0 → kind f z ≡ finite 0 → against f x y z ≡ false → fmaIn f a x y z ≡ signed f (productSign f x y) 0
+  pub unlike-zeros : (u v : ℕ) → kind f x ≡ finite u → kind f y ≡ finite v → u * v ≡ 0 → kind f z ≡ finite 0 → against f x y z ≡ true → (Down a → ⊥) → fmaIn f a x y z ≡ 0
+  pub unlike-zeros-down : (u v : ℕ) → kind f x ≡ finite u → kind f y ≡ finite v → u * v ≡ 0 → kind f z ≡ finite 0 → against f x y z ≡ true → Down a → fmaIn f a x y z ≡ signed f true 0
+  -- and so does a zero sum of terms that are not zero
   pub zero-sum : (u v w : ℕ) → kind f x ≡ finite u → kind f y ≡ finite v → kind f z ≡ finite w → 0 < u * v
-      → value f x *ℤ value f y +ℤ value f z *ℤ pos (2 ^ low f) ≡ pos 0 → fmaIn f a x y z ≡ signed f (zeroSum a) 0
+      → value f x *ℤ value f y +ℤ value f z *ℤ pos (2 ^ low f) ≡ pos 0 → (Down a → ⊥) → fmaIn f a x y z ≡ 0
+  pub zero-sum-down : (u v w : ℕ) → kind f x ≡ finite u → kind f y ≡ finite v → kind f z ≡ finite w → 0 < u * v
+      → value f x *ℤ value f y +ℤ value f z *ℤ pos (2 ^ low f) ≡ pos 0 → Down a → fmaIn f a x y z ≡ signed f true 0
+
+not-down : (a : Attribute) → (Down a → ⊥) → zeroSum a ≡ false
+not-down ties-to-even n = refl
+not-down ties-to-away n = refl
+not-down toward-zero n = refl
+not-down toward-positive n = refl
+not-down toward-negative n = absurd (n tt)
+
+is-down : (a : Attribute) → Down a → zeroSum a ≡ true
+is-down ties-to-even d = absurd d
+is-down ties-to-away d = absurd d
+is-down toward-zero d = absurd d
+is-down toward-positive d = absurd d
+is-down toward-negative d = refl
+
+-- the sign of a zero, where the product and z have like signs, and where they do not
+like-sign : (f : Format) (a : Attribute) (x y z : ℕ) → against f x y z ≡ false → signed f (zeroSign f a x y z) 0 ≡ signed f (productSign f x y) 0
+like-sign f a x y z e = ap (λ b. signed f (cond b (zeroSum a) (productSign f x y)) 0) e
+
+unlike-sign : (f : Format) (a : Attribute) (x y z : ℕ) {s : Bool} → against f x y z ≡ true → zeroSum a ≡ s → signed f (zeroSign f a x y z) 0 ≡ signed f s 0
+unlike-sign f a x y z e h = λ i. signed f (cond (e i) (h i) (productSign f x y)) 0
 
 pub fma-rows : (f : Format) (a : Attribute) (x y z : ℕ) → FmaRows f a x y z
 unfolding plusBy
 fma-rows f a x y z =
+    let infinities : Bool → ℕ = λ b. cond b (canonical f) (signed f (productSign f x y) (inf f)) in
     record {
       nan-first = λ h. nan-product f a x y z (ap (λ k. times k (kind f y)) h);
       nan-second = λ h. nan-product f a x y z (ap (times (kind f x)) h ∙ nan-y f (kind f x));
-      nan-third = λ h. by-product f a x y z refl h ∙ nan-z f a (unlike (minus f x) (minus f y)) (minus f z) (times (kind f x) (kind f y));
+      nan-third = λ h. by-product f a x y z refl h ∙ nan-z f a (productSign f x y) (minus f z) (times (kind f x) (kind f y));
       zero-by-infinity = λ h l. nan-product f a x y z (λ i. times (h i) (l i));
       infinity-by-zero = λ h l. nan-product f a x y z (λ i. times (h i) (l i));
-      opposite-infinities = λ h l u. by-product f a x y z h l ∙ ap (λ b. cond b (canonical f) (signed f (unlike (minus f x) (minus f y)) (inf f))) u;
-      like-infinities = λ h l u. by-product f a x y z h l ∙ ap (λ b. cond b (canonical f) (signed f (unlike (minus f x) (minus f y)) (inf f))) u;
-      infinite-product = λ w h l. by-product f a x y z h l;
-      infinite-third = λ p b h l. by-product f a x y z h l ∙ infinity-is f z b l;
+      opposite-infinities = λ h l u. by-product f a x y z (times-infinite f x y h) l ∙ ap infinities u;
+      like-infinities = λ h l u. by-product f a x y z (times-infinite f x y h) l ∙ ap infinities u;
+      infinite-product = λ w h l. by-product f a x y z (times-infinite f x y h) l;
+      infinite-third = λ u v b p q l. fma-by f a x y z p q l ∙ infinity-is f z b l;
       zero-product = λ u v w b p q n r. z-alone f a x y z u v w b p q n r;
-      zeros = λ u v p q n r. fma-zero f a x y z u v 0 p q r (zeros-add f x y z u v p q n r);
-      zero-sum = λ u v w p q r l e. fma-zero f a x y z u v w p q r e ∙ ap (λ b. signed f (cond b (zeroSum a) (unlike (minus f x) (minus f y))) 0) (cancelled f x y z u v w p q r l e);
-    }
-
--- zeros to the nearest even: like signs keep theirs, unlike signs give +0, and so does a sum of terms that are not zero
-pub record FmaZeros (f : Format) (x y z : ℕ) : Type 0 where
-  pub like : (u v : ℕ) → kind f x ≡ finite u → kind f y ≡ finite v → u * v ≡ 0 → kind f z ≡ finite 0 → unlike (unlike (minus f x) (minus f y)) (minus f z) ≡ false → fmaOf f x y z ≡ signed f (unlike (minus f x) (minus f y)) 0
-  pub opposite : (u v : ℕ) → kind f x ≡ finite u → kind f y ≡ finite v → u * v ≡ 0 → kind f z ≡ finite 0 → unlike (unlike (minus f x) (minus f y)) (minus f z) ≡ true → fmaOf f x y z ≡ 0
-  pub cancelled : (u v w : ℕ) → kind f x ≡ finite u → kind f y ≡ finite v → kind f z ≡ finite w → 0 < u * v → value f x *ℤ value f y +ℤ value f z *ℤ pos (2 ^ low f) ≡ pos 0 → fmaOf f x y z ≡ 0
-
-pub fma-zeros : (f : Format) (x y z : ℕ) → FmaZeros f x y z
-unfolding fmaOf
-fma-zeros f x y z =
-    let rows = fma-rows f ties-to-even x y z in
-    let sign : Bool → ℕ = λ b. signed f (cond b false (unlike (minus f x) (minus f y))) 0 in
-    record {
-      like = λ u v p q n r e. rows .zeros u v p q n r ∙ ap sign e;
-      opposite = λ u v p q n r e. rows .zeros u v p q n r ∙ ap sign e;
-      cancelled = λ u v w p q r l e. rows .zero-sum u v w p q r l e;
+      like-zeros = λ u v p q n r e. fma-zeros f a x y z u v p q n r ∙ like-sign f a x y z e;
+      unlike-zeros = λ u v p q n r e d. fma-zeros f a x y z u v p q n r ∙ unlike-sign f a x y z e (not-down a d);
+      unlike-zeros-down = λ u v p q n r e d. fma-zeros f a x y z u v p q n r ∙ unlike-sign f a x y z e (is-down a d);
+      zero-sum = λ u v w p q r l e d. fma-zero f a x y z u v w p q r e ∙ unlike-sign f a x y z (cancelled f x y z u v w p q r l e) (not-down a d);
+      zero-sum-down = λ u v w p q r l e d. fma-zero f a x y z u v w p q r e ∙ unlike-sign f a x y z (cancelled f x y z u v w p q r l e) (is-down a d);
     }

@@ -1,8 +1,8 @@
--- The formats are fair, and have the scope's numbers. Assumes nothing.
+-- The formats are fair, and the numbers are what they should be. Assumes nothing.
 use mathlib.Core.Path.{refl}
 use lib.Dec.{lit≤, lit<}
 use Rattle.ieee.specs.Format.{Fair, b32, b64, units}
-use Rattle.ieee.specs.Numbers.{Numbers64, Numbers32}
+use Rattle.ieee.specs.Numbers.{Numbers64, Numbers32, Statuses, Limits}
 
 pub fair64 : Fair b64
 fair64 = record { frac-pos = lit≤ tt; expo-two = lit≤ tt; frac-fits = lit< tt }
@@ -21,3 +21,9 @@ numbers64 = record { fraction = refl; offset = refl; smallest = (refl, refl, ref
 pub numbers32 : Numbers32
 unfolding units
 numbers32 = record { fraction = refl; offset = refl; smallest = (refl, refl, refl); overflow = refl; quiet = refl }
+
+pub statuses : Statuses
+statuses = record { ok = refl; invalid = refl; inexact = refl }
+
+pub limits : Limits
+limits = record { places = refl; divisor64 = refl; divisor32 = refl; shift = refl }

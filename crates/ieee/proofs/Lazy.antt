@@ -35,8 +35,8 @@ pub record Lazy : Type 0 where
   -- the quotient always zero
   pub quotient-zero : quotientOf b64 one one ≡ pos 0 → ⊥
   -- every list refused, and every reduction
-  pub list-refused : numberOf (listOf b64 1 [] [] .answer) ≡ 0
-  pub reduction-refused : numberOf (reduceOf 64 1 0 1) ≡ 0
+  pub list-refused : (numberOf (listOf b64 1 [] [] .answer) ≡ 0 → ⊥) → ⊥
+  pub reduction-refused : (numberOf (reduceOf 64 1 0 1) ≡ 0 → ⊥) → ⊥
   -- the output untouched, and the first place alone filled
   pub list-untouched : listOf b64 1 (four ∷ []) (0 ∷ []) .output ≡ 0 ∷ [] → ⊥
   pub list-first-alone : (r : ℕ) → listOf b64 1 (four ∷ four ∷ []) (0 ∷ 0 ∷ []) .output ≡ r ∷ 0 ∷ [] → ⊥
@@ -53,8 +53,8 @@ lazy =
       floor-nan = λ e. omega (arith, e);
       trunc-nan = λ e. omega (arith, e);
       quotient-zero = λ e. let z = ap natAbs e in omega (arith, z);
-      list-refused = refl;
-      reduction-refused = refl;
+      list-refused = λ n. n refl;
+      reduction-refused = λ n. n refl;
       list-untouched = λ e. let z = ap (λ l. getD l 0 0) e in omega (arith, z);
       list-first-alone = λ r e. let z = ap (λ l. getD l 1 0) e in omega (arith, z);
     }

@@ -12,7 +12,7 @@ use Rattle.ieee.specs.Format.{Format}
 use Rattle.ieee.specs.Sqrt.{sqrtOf}
 use Rattle.ieee.specs.Whole.{floorOf, truncOf}
 use Rattle.ieee.specs.Refusal.{given, done, refused, numberOf, valueOf}
-use Rattle.ieee.specs.Lists.{operation, listRefusals, Listed, listBy, listIn, listOf}
+use Rattle.ieee.specs.Lists.{listLimit, operation, listRefusals, Listed, listBy, listIn, listOf}
 use Rattle.ieee.proofs.Decide.{Reads, so, not-so, split, leb-reads, eqb-reads, and-reads}
 use Rattle.ieee.proofs.Refusals.{given-first, given-none, first-here, first-later, none-later, none-last, Tells, by-reads, ltb-tells, not-tells, or-tells, either, same-at}
 
@@ -51,8 +51,8 @@ pub record ListRefusals (n op : ℕ) (xs ys : List ℕ) (k : ℕ) : Type 0 where
   pub none : (k ≡ 0) ↔ (Known op × (Short n xs ys × SameLength xs ys))
   pub only : (k ≡ 0) ⊎ (k ≡ 1) ⊎ (k ≡ 2) ⊎ (k ≡ 3)
 
-pub refusals-same : {n op i j : ℕ} {xs ys : List ℕ} → ListRefusals n op xs ys i → ListRefusals n op xs ys j → i ≡ j
-refusals-same {i = i} {j} p q = go (p .only)
+pub list-refusals-same : {n op i j : ℕ} {xs ys : List ℕ} → ListRefusals n op xs ys i → ListRefusals n op xs ys j → i ≡ j
+list-refusals-same {i = i} {j} p q = go (p .only)
   where
     go : (i ≡ 0) ⊎ (i ≡ 1) ⊎ (i ≡ 2) ⊎ (i ≡ 3) → i ≡ j
     go (inl h) = same-at (p .none) (q .none) h
@@ -142,7 +142,7 @@ module _ (f : Format) (n op : ℕ) (xs ys : List ℕ) where
   list-only l m p q = (same, p .no-value ∙ sym (q .no-value), split (eqb-reads (numberOf (l .answer)) 0) written left)
     where
       same : numberOf (l .answer) ≡ numberOf (m .answer)
-      same = refusals-same (p .refusals) (q .refusals)
+      same = list-refusals-same (p .refusals) (q .refusals)
 
       left : (numberOf (l .answer) ≡ 0 → ⊥) → l .output ≡ m .output
       left z = p .untouched z ∙ sym (q .untouched (omega (arith, same)))
@@ -173,10 +173,15 @@ pub empty-done : (f : Format) (n op : ℕ) → Known op → listIn f n op [] [] 
 empty-done f n op o = list-done f n op [] [] o (omega arith) refl
 
 -- ---- at the limit
-pub places-8192-done : (f : Format) (op : ℕ) (xs ys : List ℕ) → Known op → length xs ≡ 8192 → length ys ≡ 8192 → listOf f op xs ys ≡ record { answer = done 0; output = map (operation f op) xs }
+pub list-limit-done : (f : Format) (op : ℕ) (xs ys : List ℕ) → Known op → length xs ≡ 8192 → length ys ≡ 8192 → listOf f op xs ys ≡ record { answer = done 0; output = map (operation f op) xs }
 unfolding listOf
-places-8192-done f op xs ys o p q = list-done f 8192 op xs ys o (omega arith) (p ∙ sym q)
+list-limit-done f op xs ys o p q = list-done f 8192 op xs ys o (omega arith) (p ∙ sym q)
 
-pub places-8193-refused : (f : Format) (op : ℕ) (xs ys : List ℕ) → Known op → length xs ≡ 8193 → listOf f op xs ys ≡ record { answer = refused 2; output = ys }
+pub past-list-limit-refused : (f : Format) (op : ℕ) (xs ys : List ℕ) → Known op → length xs ≡ 8193 → listOf f op xs ys ≡ record { answer = refused 2; output = ys }
 unfolding listOf
-places-8193-refused f op xs ys o p = long-refused f 8192 op xs ys o (inl (omega arith))
+past-list-limit-refused f op xs ys o p = long-refused f 8192 op xs ys o (inl (omega arith))
+
+-- ---- with the limit that is promised
+pub list-of-is : (f : Format) (op : ℕ) (xs ys : List ℕ) → ListedAs f listLimit op xs ys (listOf f op xs ys)
+unfolding listOf
+list-of-is f op xs ys = list-is f listLimit op xs ys

@@ -35,8 +35,8 @@ nearest-le u d m n p a b = by-contra m n (λ l. clash l (next l))
     clash : n < m → m ≤ suc n → ⊥
     clash l k = omega (arith, times-le d l, a .tie (omega (arith, times-le d l, a .half, b .half)), b .tie (omega (arith, times-le d l, a .half, b .half)))
 
-pub nearest-unique : (u d m n : ℕ) → 0 < d → NearestTo u d m → NearestTo u d n → m ≡ n
-nearest-unique u d m n p a b = both-ways m n (nearest-le u d m n p a b) (nearest-le u d n m p b a)
+pub nearest-whole-unique : (u d m n : ℕ) → 0 < d → NearestTo u d m → NearestTo u d n → m ≡ n
+nearest-whole-unique u d m n p a b = both-ways m n (nearest-le u d m n p a b) (nearest-le u d n m p b a)
 
 -- 0 is no nearer
 pub nearest-within : (u d n : ℕ) → NearestTo u d n → distance u (n * d) ≤ u

@@ -26,8 +26,8 @@ pub record ReduceRefusals (w x e y k : ℕ) : Type 0 where
   pub none : (k ≡ 0) ↔ (Fit w x y × (e ≤ shiftLimit))
   pub only : (k ≡ 0) ⊎ (k ≡ 4) ⊎ (k ≡ 5)
 
-pub refusals-same : {w x e y i j : ℕ} → ReduceRefusals w x e y i → ReduceRefusals w x e y j → i ≡ j
-refusals-same {i = i} {j} p q = go (p .only)
+pub reduce-refusals-same : {w x e y i j : ℕ} → ReduceRefusals w x e y i → ReduceRefusals w x e y j → i ≡ j
+reduce-refusals-same {i = i} {j} p q = go (p .only)
   where
     go : (i ≡ 0) ⊎ (i ≡ 4) ⊎ (i ≡ 5) → i ≡ j
     go (inl h) = same-at (p .none) (q .none) h
@@ -102,13 +102,13 @@ module _ (w x e y : ℕ) where
   answer-by zero r = record { refusals = r; no-value = λ n. absurd (n refl); value = λ z. reduce-is x e y (omega (arith, r .none .0 refl)) }
   answer-by (suc k) r = record { refusals = r; no-value = λ n. refl; value = λ z. absurd (omega arith) }
 
-  pub answer-is : ReducedAs w x e y (reduceOf w x e y)
+  pub reduction-is : ReducedAs w x e y (reduceOf w x e y)
   unfolding reduceOf
-  answer-is = answer-by (given (reduceRefusals w x e y)) given-refusals
+  reduction-is = answer-by (given (reduceRefusals w x e y)) given-refusals
 
-pub answer-only : {w x e y : ℕ} (a b : Answer) → ReducedAs w x e y a → ReducedAs w x e y b → (numberOf a ≡ numberOf b) × (valueOf a ≡ valueOf b)
-answer-only a b p q =
-    let n = refusals-same (p .refusals) (q .refusals) in (
+pub reduction-only : {w x e y : ℕ} (a b : Answer) → ReducedAs w x e y a → ReducedAs w x e y b → (numberOf a ≡ numberOf b) × (valueOf a ≡ valueOf b)
+reduction-only a b p q =
+    let n = reduce-refusals-same (p .refusals) (q .refusals) in (
       n,
       split (eqb-reads (numberOf a) 0)
           (λ z. reduce-only (p .value z) (q .value (omega arith)))
@@ -119,8 +119,8 @@ answer-only a b p q =
 pub zero-divisor-refused : (w x e : ℕ) → reduceOf w x e 0 ≡ refused 4
 zero-divisor-refused w x e = reduce-four w x e 0 (inr (omega arith))
 
-pub shift-4096-done : (w x y : ℕ) → Fit w x y → reduceOf w x 4096 y ≡ done (x * 2 ^ 4096 % y)
-shift-4096-done w x y f = reduce-done w x 4096 y (f .0) (f .1) (omega arith)
+pub shift-limit-done : (w x y : ℕ) → Fit w x y → reduceOf w x 4096 y ≡ done (x * 2 ^ 4096 % y)
+shift-limit-done w x y f = reduce-done w x 4096 y (f .0) (f .1) (omega arith)
 
-pub shift-4097-refused : (w x y : ℕ) → Fit w x y → reduceOf w x 4097 y ≡ refused 5
-shift-4097-refused w x y f = reduce-five w x 4097 y f (omega arith)
+pub past-shift-limit-refused : (w x y : ℕ) → Fit w x y → reduceOf w x 4097 y ≡ refused 5
+past-shift-limit-refused w x y f = reduce-five w x 4097 y f (omega arith)

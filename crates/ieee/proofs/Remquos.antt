@@ -17,7 +17,7 @@ use Rattle.ieee.proofs.Units.{units-lt, units-zero, units-inj}
 use Rattle.ieee.proofs.Patterns.{same-pattern, Finite, finite-is}
 use Rattle.ieee.proofs.Signs.{signed-zero}
 use Rattle.ieee.proofs.SignedSums.{unlike-self, unlike-not, Splits, Remains, remains-splits, remains-distance, same-sign}
-use Rattle.ieee.proofs.NearestWhole.{NearestTo, whole-even-nearest, nearest-unique, nearest-within}
+use Rattle.ieee.proofs.NearestWhole.{NearestTo, whole-even-nearest, nearest-whole-unique, nearest-within}
 use Rattle.ieee.specs.Fmod.{divide}
 use Rattle.ieee.proofs.Remainders.{Stands, difference-stands, divide-by-nan, divide-by-zero}
 
@@ -134,7 +134,7 @@ remquo-only f x y r r′ q q′ l a b = (
     v = units f (magnitude f y)
 
     counted : a .n ≡ b .n
-    counted = nearest-unique u v (a .n) (b .n) l (left-nearest f x y r q a) (left-nearest f x y r′ q′ b)
+    counted = nearest-whole-unique u v (a .n) (b .n) l (left-nearest f x y r q a) (left-nearest f x y r′ q′ b)
 
     lefts : units f (magnitude f r) ≡ units f (magnitude f r′)
     lefts = sym (remains-distance f x y r (a .n) (a .counts)) ∙ ap (λ n. distance u (n * v)) counted ∙ remains-distance f x y r′ (b .n) (b .counts)
@@ -151,17 +151,17 @@ remquo-only f x y r r′ q q′ l a b = (
         (rw (counted, lefts) (remains-splits f x y r′ (b .n) .0 (b .counts))))
 
 -- ---- the rows of remquo: NaNs, infinities and zeros
-abbrev pub Answer : Format → ℕ → ℕ → ℕ → ℤ → Type 0
-Answer f x y r q = (remquoOf f x y ≡ r) × (quotientOf f x y ≡ q)
+abbrev pub AnswerIs : Format → ℕ → ℕ → ℕ → ℤ → Type 0
+AnswerIs f x y r q = (remquoOf f x y ≡ r) × (quotientOf f x y ≡ q)
 
 pub record RemquoRows (f : Format) : Type 0 where
-  pub nan-x : (x y : ℕ) → kind f x ≡ nan → Answer f x y (canonical f) (pos 0)
-  pub infinite-x : (x y : ℕ) → kind f x ≡ infinite → Answer f x y (canonical f) (pos 0)
-  pub nan-y : (x y : ℕ) → kind f y ≡ nan → Answer f x y (canonical f) (pos 0)
-  pub zero-y : (x y : ℕ) → kind f y ≡ finite 0 → Answer f x y (canonical f) (pos 0)
-  pub infinite-y : (x y u : ℕ) → kind f x ≡ finite u → kind f y ≡ infinite → Answer f x y x (pos 0)
-  pub below-half-y : (x y u v : ℕ) → Pattern f x → kind f x ≡ finite u → kind f y ≡ finite (suc v) → 2 * u ≤ suc v → Answer f x y x (pos 0)
-  pub zero-x : (x y v : ℕ) → Pattern f x → kind f x ≡ finite 0 → kind f y ≡ finite (suc v) → Answer f x y x (pos 0)
+  pub nan-x : (x y : ℕ) → kind f x ≡ nan → AnswerIs f x y (canonical f) (pos 0)
+  pub infinite-x : (x y : ℕ) → kind f x ≡ infinite → AnswerIs f x y (canonical f) (pos 0)
+  pub nan-y : (x y : ℕ) → kind f y ≡ nan → AnswerIs f x y (canonical f) (pos 0)
+  pub zero-y : (x y : ℕ) → kind f y ≡ finite 0 → AnswerIs f x y (canonical f) (pos 0)
+  pub infinite-y : (x y u : ℕ) → kind f x ≡ finite u → kind f y ≡ infinite → AnswerIs f x y x (pos 0)
+  pub below-half-y : (x y u v : ℕ) → Pattern f x → kind f x ≡ finite u → kind f y ≡ finite (suc v) → 2 * u ≤ suc v → AnswerIs f x y x (pos 0)
+  pub zero-x : (x y v : ℕ) → Pattern f x → kind f x ≡ finite 0 → kind f y ≡ finite (suc v) → AnswerIs f x y x (pos 0)
   pub zero-left : (x y u v : ℕ) → kind f x ≡ finite u → kind f y ≡ finite (suc v) → magnitude f (remquoOf f x y) ≡ 0 → minus f (remquoOf f x y) ≡ minus f x
   pub zero-quotient : (x y u v : ℕ) → kind f x ≡ finite u → kind f y ≡ finite (suc v) → whole even u (suc v) % 2 ^ 31 ≡ 0 → quotientOf f x y ≡ pos 0
 
@@ -179,7 +179,7 @@ below-left f x y u v p e k l =
       quotient = sym (signed-zero (unlike (minus f x) (minus f y)));
     }
 
-remquo-below : (f : Format) (x y u v : ℕ) → Pattern f x → kind f x ≡ finite u → kind f y ≡ finite (suc v) → 2 * u ≤ suc v → Answer f x y x (pos 0)
+remquo-below : (f : Format) (x y u v : ℕ) → Pattern f x → kind f x ≡ finite u → kind f y ≡ finite (suc v) → 2 * u ≤ suc v → AnswerIs f x y x (pos 0)
 remquo-below f x y u v p e k l =
     remquo-only f x y (remquoOf f x y) x (quotientOf f x y) (pos 0) (omega (arith, finite-is f y (suc v) k .counts)) (remquo-is f x y u v e k) (below-left f x y u v p e k l)
 

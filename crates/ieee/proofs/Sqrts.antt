@@ -1,16 +1,18 @@
 -- sqrt: for a finite operand not below zero the exact root, rounded once; and every other row. Assumes nothing.
 use Prim.Native.Nat.{ℕ, zero, suc, _*_, _^_}
-use mathlib.Core.Path.{_≡_, refl, ap, _∙_}
+use mathlib.Core.Path.{_≡_, refl, sym, ap, _∙_}
 use mathlib.Core.Bool.{Bool, true, false}
 use native.Mathlib.Omega.{arith}
-use Rattle.ieee.specs.Format.{Format, Fair, low, canonical}
-use Rattle.ieee.specs.Pattern.{Pattern, minus, Kind, nan, infinite, finite, kind}
+use lib.IntN.{natAbs}
+use Rattle.ieee.specs.Format.{Format, Fair, low, units, canonical}
+use Rattle.ieee.specs.Pattern.{Pattern, minus, magnitude, Kind, nan, infinite, finite, kind}
 use Rattle.ieee.specs.Exact.{surd}
 use Rattle.ieee.specs.Round.{Attribute, ties-to-even, answer}
 use Rattle.ieee.specs.Rule.{to-even, Once}
 use Rattle.ieee.specs.Status.{OK, INVALID}
-use Rattle.ieee.specs.Sqrt.{rootOf, sqrtBy, sqrtIn, sqrtOf, sqrtStatusBy, sqrtStatus}
-use Rattle.ieee.proofs.Patterns.{zero-is}
+use Rattle.ieee.specs.Sqrt.{rootOf, exactSqrt, sqrtBy, sqrtIn, sqrtOf, sqrtStatusBy, sqrtStatus}
+use Rattle.ieee.proofs.Patterns.{finite-is, zero-is, value-is}
+use Rattle.ieee.proofs.Signs.{abs-signed}
 use Rattle.ieee.proofs.Exacts.{answer-root-zero}
 use Rattle.ieee.proofs.Answers.{answer-once}
 
@@ -23,25 +25,31 @@ module _ (f : Format) where
   unfolding sqrtStatus
   status-by x e h = λ i. sqrtStatusBy (e i) (h i)
 
-  -- the answer is the exact root, rounded; a zero keeps its sign
-  pub sqrt-answer : (a : Attribute) (x u : ℕ) → kind f x ≡ finite u → (minus f x ≡ true → u ≡ 0) → sqrtIn f a x ≡ answer f a (minus f x) (rootOf f u)
+  root-exact : (x u : ℕ) → kind f x ≡ finite u → rootOf f u ≡ exactSqrt f x
+  root-exact x u h = ap (λ n. surd (n * 2 ^ low f)) (sym (ap natAbs (value-is f x) ∙ abs-signed (minus f x) (units f (magnitude f x)) ∙ finite-is f x u h .counts))
+
+  sqrt-root : (a : Attribute) (x u : ℕ) → kind f x ≡ finite u → (minus f x ≡ true → u ≡ 0) → sqrtIn f a x ≡ answer f a (minus f x) (rootOf f u)
   unfolding sqrtBy
-  sqrt-answer a x u h z = go (minus f x) u refl h z
+  sqrt-root a x u h z = go (minus f x) u refl h z
     where
       go : (s : Bool) (u : ℕ) → minus f x ≡ s → kind f x ≡ finite u → (s ≡ true → u ≡ 0) → sqrtIn f a x ≡ answer f a s (rootOf f u)
       go s zero e h z = sqrt-by a x e h
       go false (suc u) e h z = sqrt-by a x e h
       go true (suc u) e h z = absurd (omega (arith, z refl))
 
+  -- the answer is the exact root, rounded; a zero keeps its sign
+  pub sqrt-answer : (a : Attribute) (x u : ℕ) → kind f x ≡ finite u → (minus f x ≡ true → u ≡ 0) → sqrtIn f a x ≡ answer f a (minus f x) (exactSqrt f x)
+  sqrt-answer a x u h z = sqrt-root a x u h z ∙ ap (answer f a (minus f x)) (root-exact x u h)
+
   -- so it meets the rule for answers
-  pub sqrt-once : Fair f → (x u : ℕ) → kind f x ≡ finite u → (minus f x ≡ true → u ≡ 0) → Once f to-even (minus f x) (rootOf f u) (sqrtOf f x)
+  pub sqrt-once : Fair f → (x u : ℕ) → kind f x ≡ finite u → (minus f x ≡ true → u ≡ 0) → Once f to-even (minus f x) (exactSqrt f x) (sqrtOf f x)
   unfolding sqrtOf
-  sqrt-once g x u h z = rw (sqrt-answer ties-to-even x u h z) (answer-once f g to-even (minus f x) (rootOf f u))
+  sqrt-once g x u h z = rw (sqrt-answer ties-to-even x u h z) (answer-once f g to-even (minus f x) (exactSqrt f x))
 
   sqrt-zero : (a : Attribute) (x : ℕ) → Pattern f x → kind f x ≡ finite 0 → sqrtIn f a x ≡ x
   sqrt-zero a x p h =
       let e : 0 * 2 ^ low f ≡ 0 = omega arith in
-      sqrt-answer a x 0 h (λ m. refl) ∙ ap (λ n. answer f a (minus f x) (surd n)) e ∙ answer-root-zero f a (minus f x) ∙ zero-is f x p h
+      sqrt-root a x 0 h (λ m. refl) ∙ ap (λ n. answer f a (minus f x) (surd n)) e ∙ answer-root-zero f a (minus f x) ∙ zero-is f x p h
 
   status-zero : (x : ℕ) → kind f x ≡ finite 0 → sqrtStatus f x ≡ OK
   unfolding sqrtStatusBy

@@ -162,12 +162,12 @@ pub trunc-rows : (f : Format) → WholeRows f (truncOf f) (truncStatus f)
 unfolding truncOf truncStatus
 trunc-rows f = wholeIn-rows f toward-zero
 
-pub floor-rows : (f : Format) → WholeRows f (floorOf f) (floorStatus f)
+floor-whole-rows : (f : Format) → WholeRows f (floorOf f) (floorStatus f)
 unfolding floorOf floorStatus
-floor-rows f = wholeIn-rows f toward-negative
+floor-whole-rows f = wholeIn-rows f toward-negative
 
 -- ---- floor between -1 and 1
-pub floor-above-zero : (f : Format) (x u : ℕ) → kind f x ≡ finite u → u < 2 ^ low f → minus f x ≡ false → floorOf f x ≡ 0
+floor-above-zero : (f : Format) (x u : ℕ) → kind f x ≡ finite u → u < 2 ^ low f → minus f x ≡ false → floorOf f x ≡ 0
 unfolding floorOf
 floor-above-zero f x u h l s =
     let e = ap (λ t. whole (wayOf toward-negative t) u (2 ^ low f)) s ∙ div-is u (2 ^ low f) 0 u l (omega arith) .0 in
@@ -180,10 +180,19 @@ longer-one n d p l =
     let b = mul-lt-cancel (whole longer n d) 2 d (omega arith) in
     omega arith
 
-pub floor-below-zero : (f : Format) → Fair f → (x u : ℕ) → kind f x ≡ finite u → 0 < u → u < 2 ^ low f → minus f x ≡ true → value f (floorOf f x) ≡ negℤ (pos (2 ^ low f))
+floor-below-zero : (f : Format) → Fair f → (x u : ℕ) → kind f x ≡ finite u → 0 < u → u < 2 ^ low f → minus f x ≡ true → value f (floorOf f x) ≡ negℤ (pos (2 ^ low f))
 unfolding floorOf
 floor-below-zero f g x u h p l s =
     let v = sent-value f (wayOf toward-negative (minus f x)) x (wholeIn f toward-negative x) (wholeIn-sent f toward-negative g x u h) in
     let e = finite-is f x u h .counts in
     let o = times (2 ^ low f) (longer-one u (2 ^ low f) p l) ∙ one-mul (2 ^ low f) in
     v ∙ (λ i. withSign (s i) (whole (wayOf toward-negative (s i)) (e i) (2 ^ low f) * 2 ^ low f)) ∙ ap (λ n. negℤ (pos n)) o
+
+-- ---- floor has two rows more: a value in (0, 1) gives +0, and a value in (-1, 0) gives -1
+pub record FloorRows (f : Format) : Type 0 where
+  pub rows : WholeRows f (floorOf f) (floorStatus f)
+  pub above-zero : (x u : ℕ) → kind f x ≡ finite u → u < 2 ^ low f → minus f x ≡ false → floorOf f x ≡ 0
+  pub below-zero : (x u : ℕ) → kind f x ≡ finite u → 0 < u → u < 2 ^ low f → minus f x ≡ true → value f (floorOf f x) ≡ negℤ (pos (2 ^ low f))
+
+pub floor-rows : (f : Format) → Fair f → FloorRows f
+floor-rows f g = record { rows = floor-whole-rows f; above-zero = floor-above-zero f; below-zero = floor-below-zero f g }

@@ -1,4 +1,4 @@
--- The worked cases of the scope that are proved. Assumes nothing.
+-- Fifteen worked cases. Assumes nothing.
 use mathlib.Core.Path.{_≡_}
 use lib.IntN.{pos, negsuc}
 use Rattle.ieee.specs.Format.{b64, b32}

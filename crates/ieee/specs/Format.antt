@@ -40,8 +40,11 @@ fields h (suc e) t = (h + t) * 2 ^ e
 unfoldable pub units : Format → ℕ → ℕ
 units f m = fields (2 ^ f .frac) (m / 2 ^ f .frac) (m % 2 ^ f .frac)
 
--- what theorems ask of a format: a fraction, so that infinity's pattern is even; exponents enough for 1 to be a number; and for every whole number of one digit more than the fraction's
+-- what theorems ask of a format
 pub record Fair (f : Format) : Type 0 where
+  -- infinity's pattern is even
   pub frac-pos : 1 ≤ f .frac
+  -- 1 is a number
   pub expo-two : 2 ≤ f .expo
+  -- every whole number of frac + 1 digits is a number
   pub frac-fits : f .frac < 2 ^ (f .expo - 1)

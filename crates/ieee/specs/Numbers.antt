@@ -1,8 +1,11 @@
--- The numbers of the two formats, as the scope lists them. Assumes nothing.
+-- The numbers of binary64 and binary32, of the statuses and of the limits. Assumes nothing.
 use Prim.Native.Nat.{ℕ, _-_, _*_, _^_}
 use mathlib.Core.Path.{_≡_}
 use Rattle.ieee.specs.Format.{Format, b64, b32, bias, low, units, canonical}
 use Rattle.ieee.specs.Rule.{halfway}
+use Rattle.ieee.specs.Status.{OK, INVALID, INEXACT}
+use Rattle.ieee.specs.Reduction.{shiftLimit, divisorLimit}
+use Rattle.ieee.specs.Lists.{listLimit}
 
 -- fraction bits, bias, the place of the smallest unit, the halfway point to infinity, the canonical NaN; 1 is 2 ^ low smallest units
 pub record Numbers (f : Format) (frac-is bias-is low-is halfway-is nan-is one : ℕ) : Type 0 where
@@ -17,3 +20,15 @@ Numbers64 = Numbers b64 52 1023 1074 (2 ^ 1024 - 2 ^ 970) 0x7ff8000000000000 0x3
 
 abbrev pub Numbers32 : Type 0
 Numbers32 = Numbers b32 23 127 149 (2 ^ 128 - 2 ^ 103) 0x7fc00000 0x3f800000
+
+pub record Statuses : Type 0 where
+  pub ok : OK ≡ 0
+  pub invalid : INVALID ≡ 1
+  pub inexact : INEXACT ≡ 32
+
+-- places of a list; the divisor and the shift of a reduction
+pub record Limits : Type 0 where
+  pub places : listLimit ≡ 8192
+  pub divisor64 : divisorLimit 64 ≡ 2 ^ 62 - 1
+  pub divisor32 : divisorLimit 32 ≡ 2 ^ 30 - 1
+  pub shift : shiftLimit ≡ 4096

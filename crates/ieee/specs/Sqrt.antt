@@ -1,13 +1,14 @@
 -- The square root: IEEE 754-2019, squareRoot, clauses 5.4.1, 6.3 and 7.2. Assumes nothing.
 use Prim.Native.Nat.{ℕ, zero, suc, _*_, _^_}
 use mathlib.Core.Bool.{Bool, true, false}
+use lib.IntN.{natAbs}
 use Rattle.ieee.specs.Format.{Format, low, canonical}
-use Rattle.ieee.specs.Pattern.{Kind, nan, infinite, finite, kind, minus}
+use Rattle.ieee.specs.Pattern.{Kind, nan, infinite, finite, kind, minus, value}
 use Rattle.ieee.specs.Exact.{Value, surd}
 use Rattle.ieee.specs.Round.{Attribute, ties-to-even, answer}
 use Rattle.ieee.specs.Status.{OK, INVALID}
 
--- the exact root of u units
+-- the exact root of u units: r units are it where r r = u 2 ^ low, since a unit is 2 ^ -low
 abbrev pub rootOf : Format → ℕ → Value
 rootOf f u = surd (u * 2 ^ low f)
 
@@ -41,3 +42,7 @@ sqrtStatusBy true (finite (suc u)) = INVALID
 unfoldable pub sqrtStatus : Format → ℕ → ℕ
 unfolding sqrtStatusBy kind
 sqrtStatus f x = sqrtStatusBy (minus f x) (kind f x)
+
+-- ---- what the answer to a finite operand not below zero is held to: the exact root of x, in smallest units, by its square
+abbrev pub exactSqrt : Format → ℕ → Value
+exactSqrt f x = surd (natAbs (value f x) * 2 ^ low f)
