@@ -1,6 +1,6 @@
 -- fma: for finite operands the exact x y + z, rounded once; and every other row. Assumes nothing.
 use Prim.Native.Nat.{ℕ, zero, suc, _+_, _*_, _^_, _<_}
-use mathlib.Core.Path.{_≡_, refl, sym, ap, _∙_}
+use mathlib.Core.Path.{_≡_, refl, sym, ap, _∙_, subst}
 use mathlib.Core.Bool.{Bool, true, false, not, cond}
 use native.Mathlib.Omega.{arith}
 use lib.Pow.{pow-pos}
@@ -11,12 +11,12 @@ use Rattle.ieee.specs.Format.{Format, Fair, low, inf, units, canonical}
 use Rattle.ieee.specs.Pattern.{Pattern, minus, magnitude, signed, unlike, withSign, value, Kind, nan, infinite, finite, kind}
 use Rattle.ieee.specs.Exact.{dyadic}
 use Rattle.ieee.specs.Round.{Attribute, ties-to-even, ties-to-away, toward-zero, toward-positive, toward-negative, answer}
-use Rattle.ieee.specs.Rule.{to-even, Once}
+use Rattle.ieee.specs.Rule.{to-even, Once, RuleIn}
 use Rattle.ieee.specs.Fma.{times, sumOf, zeroSum, plusBy, fmaIn, fmaOf, exactFma, zeroSign}
 use Rattle.ieee.proofs.Patterns.{value-is, finite-is, infinity-is, signed-is}
 use Rattle.ieee.proofs.Signs.{signed-times, signed-product, signed-zero}
 use Rattle.ieee.proofs.Exacts.{answer-zero, sign-given, answer-held}
-use Rattle.ieee.proofs.Answers.{answer-once}
+use Rattle.ieee.proofs.Attributes.{answer-met}
 
 module _ (f : Format) where
   fma-by : (a : Attribute) (x y z : ℕ) {k l h : Kind} → kind f x ≡ k → kind f y ≡ l → kind f z ≡ h
@@ -44,11 +44,17 @@ module _ (f : Format) where
   unfolding plusBy
   fma-answer a x y z u v w p q r = fma-by a x y z p q r ∙ ap (answer f a (zeroSign f a x y z)) (sum-exact x y z u v w p q r)
 
-  -- so it meets the rule for answers
+  -- so it meets the rule for answers, under every attribute
+  pub fma-met : Fair f → (a : Attribute) (x y z u v w : ℕ) → kind f x ≡ finite u → kind f y ≡ finite v → kind f z ≡ finite w
+      → RuleIn f a (zeroSign f a x y z) (exactFma f x y z) (fmaIn f a x y z)
+  fma-met g a x y z u v w p q r =
+      subst (RuleIn f a (zeroSign f a x y z) (exactFma f x y z)) (sym (fma-answer a x y z u v w p q r)) (answer-met f g a (zeroSign f a x y z) (exactFma f x y z))
+
+  -- and to the nearest even
   pub fma-once : Fair f → (x y z u v w : ℕ) → kind f x ≡ finite u → kind f y ≡ finite v → kind f z ≡ finite w
       → Once f to-even (zeroSign f ties-to-even x y z) (exactFma f x y z) (fmaOf f x y z)
   unfolding fmaOf
-  fma-once g x y z u v w p q r = rw (fma-answer ties-to-even x y z u v w p q r) (answer-once f g to-even (zeroSign f ties-to-even x y z) (exactFma f x y z))
+  fma-once g x y z u v w p q r = fma-met g ties-to-even x y z u v w p q r
 
   -- ---- zeros
   -- an exact zero has the sign that is fixed for it

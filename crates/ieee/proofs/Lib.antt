@@ -16,6 +16,8 @@ pub mod Rule
 pub mod Directed
 pub mod Ways
 pub mod Answers
+pub mod DirectedAnswers
+pub mod Attributes
 pub mod Exacts
 pub mod Sqrts
 pub mod Fmas

@@ -11,14 +11,14 @@ use Rattle.ieee.specs.Format.{Format, Fair, inf, units, canonical}
 use Rattle.ieee.specs.Pattern.{Pattern, minus, signed, withSign, value, nan, infinite, finite, kind}
 use Rattle.ieee.specs.Exact.{dyadic, ratio}
 use Rattle.ieee.specs.Round.{Way, even, away, shorter, longer, Attribute, ties-to-even, wayOf, rounded, answer}
-use Rattle.ieee.specs.Rule.{to-even, Once}
+use Rattle.ieee.specs.Rule.{to-even, Once, RuleIn}
 use Rattle.ieee.specs.Scalbn.{scaled, reach, clamp, scalbnBy, scalbnIn, scalbnOf, exactScalbn}
 use Rattle.ieee.proofs.Units.{units-mono, units-lt, units-inf}
 use Rattle.ieee.proofs.Alike.{Beside, Places, same-side}
 use Rattle.ieee.proofs.Patterns.{finite-is, zero-is, value-is}
 use Rattle.ieee.proofs.Signs.{signed-times, signed-zero}
 use Rattle.ieee.proofs.Exacts.{answer-zero, sign-own, answer-of}
-use Rattle.ieee.proofs.Answers.{answer-once}
+use Rattle.ieee.proofs.Attributes.{answer-met}
 
 -- ---- far enough, up or down, all values round alike
 places-le : (f : Format) (w : Way) (j : ℕ) → j < inf f → Places f w j ≤ 2 * units f (inf f)
@@ -100,10 +100,14 @@ module _ (f : Format) (g : Fair f) where
       let m = finite-is f x u h in
       ap (scalbnBy f a x n) h ∙ clamp-alike a (minus f x) u n (omega (arith, m .counts, units-lt f (m .below))) ∙ ap (answer f a (minus f x)) (scaled-exact x u n h)
 
-  -- so it meets the rule for answers
+  -- so it meets the rule for answers, under every attribute
+  pub scalbn-met : (a : Attribute) (x u : ℕ) (n : ℤ) → kind f x ≡ finite u → RuleIn f a (minus f x) (exactScalbn f x n) (scalbnIn f a x n)
+  scalbn-met a x u n h = subst (RuleIn f a (minus f x) (exactScalbn f x n)) (sym (scalbn-answer a x u n h)) (answer-met f g a (minus f x) (exactScalbn f x n))
+
+  -- and to the nearest even
   pub scalbn-once : (x u : ℕ) (n : ℤ) → kind f x ≡ finite u → Once f to-even (minus f x) (exactScalbn f x n) (scalbnOf f x n)
   unfolding scalbnOf
-  scalbn-once x u n h = rw (scalbn-answer ties-to-even x u n h) (answer-once f g to-even (minus f x) (exactScalbn f x n))
+  scalbn-once x u n h = scalbn-met ties-to-even x u n h
 
   scalbn-zero : (a : Attribute) (x : ℕ) (n : ℤ) → Pattern f x → kind f x ≡ finite 0 → scalbnIn f a x n ≡ x
   scalbn-zero a x n p h = scalbn-answer a x 0 n h ∙ ap (answer f a (minus f x)) (sym (scaled-exact x 0 n h)) ∙ nothing n ∙ zero-is f x p h

@@ -1,6 +1,6 @@
 -- sqrt: for a finite operand not below zero the exact root, rounded once; and every other row. Assumes nothing.
 use Prim.Native.Nat.{ℕ, zero, suc, _*_, _^_}
-use mathlib.Core.Path.{_≡_, refl, sym, ap, _∙_}
+use mathlib.Core.Path.{_≡_, refl, sym, ap, _∙_, subst}
 use mathlib.Core.Bool.{Bool, true, false}
 use native.Mathlib.Omega.{arith}
 use lib.IntN.{natAbs}
@@ -8,13 +8,13 @@ use Rattle.ieee.specs.Format.{Format, Fair, low, units, canonical}
 use Rattle.ieee.specs.Pattern.{Pattern, minus, magnitude, Kind, nan, infinite, finite, kind}
 use Rattle.ieee.specs.Exact.{surd}
 use Rattle.ieee.specs.Round.{Attribute, ties-to-even, answer}
-use Rattle.ieee.specs.Rule.{to-even, Once}
+use Rattle.ieee.specs.Rule.{to-even, Once, RuleIn}
 use Rattle.ieee.specs.Status.{OK, INVALID}
 use Rattle.ieee.specs.Sqrt.{rootOf, exactSqrt, sqrtBy, sqrtIn, sqrtOf, sqrtStatusBy, sqrtStatus}
 use Rattle.ieee.proofs.Patterns.{finite-is, zero-is, value-is}
 use Rattle.ieee.proofs.Signs.{abs-signed}
 use Rattle.ieee.proofs.Exacts.{answer-root-zero}
-use Rattle.ieee.proofs.Answers.{answer-once}
+use Rattle.ieee.proofs.Attributes.{answer-met}
 
 module _ (f : Format) where
   sqrt-by : (a : Attribute) (x : ℕ) {s : Bool} {k : Kind} → minus f x ≡ s → kind f x ≡ k → sqrtIn f a x ≡ sqrtBy f a x s k
@@ -41,10 +41,14 @@ module _ (f : Format) where
   pub sqrt-answer : (a : Attribute) (x u : ℕ) → kind f x ≡ finite u → (minus f x ≡ true → u ≡ 0) → sqrtIn f a x ≡ answer f a (minus f x) (exactSqrt f x)
   sqrt-answer a x u h z = sqrt-root a x u h z ∙ ap (answer f a (minus f x)) (root-exact x u h)
 
-  -- so it meets the rule for answers
+  -- so it meets the rule for answers, under every attribute
+  pub sqrt-met : Fair f → (a : Attribute) (x u : ℕ) → kind f x ≡ finite u → (minus f x ≡ true → u ≡ 0) → RuleIn f a (minus f x) (exactSqrt f x) (sqrtIn f a x)
+  sqrt-met g a x u h z = subst (RuleIn f a (minus f x) (exactSqrt f x)) (sym (sqrt-answer a x u h z)) (answer-met f g a (minus f x) (exactSqrt f x))
+
+  -- and to the nearest even
   pub sqrt-once : Fair f → (x u : ℕ) → kind f x ≡ finite u → (minus f x ≡ true → u ≡ 0) → Once f to-even (minus f x) (exactSqrt f x) (sqrtOf f x)
   unfolding sqrtOf
-  sqrt-once g x u h z = rw (sqrt-answer ties-to-even x u h z) (answer-once f g to-even (minus f x) (exactSqrt f x))
+  sqrt-once g x u h z = sqrt-met g ties-to-even x u h z
 
   sqrt-zero : (a : Attribute) (x : ℕ) → Pattern f x → kind f x ≡ finite 0 → sqrtIn f a x ≡ x
   sqrt-zero a x p h =
