@@ -8,13 +8,13 @@ use Rattle.ieee.specs.Format.{Format, Fair}
 use Rattle.ieee.specs.Pattern.{Pattern, minus, magnitude, signed}
 use Rattle.ieee.specs.Exact.{Value, signOf, absolute}
 use Rattle.ieee.specs.Round.{shorter, longer, rounded, Attribute, ties-to-even, ties-to-away, toward-zero, toward-positive, toward-negative, wayOf, answer}
-use Rattle.ieee.specs.Rule.{to-even, to-away, Rule, RuleIn}
+use Rattle.ieee.specs.Rule.{to-even, to-away, Rule, Directed, RuleIn}
 use Rattle.ieee.proofs.Past.{rounded-le}
 use Rattle.ieee.proofs.Patterns.{inf-below-top, pattern-signed, signed-is}
 use Rattle.ieee.proofs.Signs.{by-sign, sound}
 use Rattle.ieee.proofs.Ways.{rule-only, answer-rule}
 use Rattle.ieee.proofs.Answers.{answer-once, once-answer}
-use Rattle.ieee.proofs.DirectedAnswers.{Directed, outward-directed, toward-directed, directed-outward, directed-toward}
+use Rattle.ieee.proofs.DirectedAnswers.{outward-directed, toward-directed, directed-outward, directed-toward}
 
 -- toward positive, or toward negative
 abbrev toward : Bool → Attribute
@@ -31,18 +31,7 @@ toward-other false = refl
 toward-other true = refl
 
 module _ (f : Format) (s : Bool) (v : Value) where
-  -- ---- the rules toward positive and toward negative are one rule, over the direction
-  directed-is : (d : Bool) (r : ℕ) → Directed f d s v r ↔ RuleIn f (toward d) s v r
-  directed-is false r = (
-    λ c. record { pattern = c .pattern; within = c .within; sign = c .sign; high = c .bounds; least = c .first; infinity = c .infinity },
-    λ c. record { pattern = c .pattern; within = c .within; sign = c .sign; bounds = c .high; first = c .least; infinity = c .infinity },
-  )
-  directed-is true r = (
-    λ c. record { pattern = c .pattern; within = c .within; sign = c .sign; low = c .bounds; most = c .first; infinity = c .infinity },
-    λ c. record { pattern = c .pattern; within = c .within; sign = c .sign; bounds = c .low; first = c .most; infinity = c .infinity },
-  )
-
-  -- what it asks of a pattern with the value's sign is what the rule for magnitudes asks
+  -- what the rule of a direction asks of a pattern with the value's sign is what the rule for magnitudes asks
   module _ (r : ℕ) (p : Pattern f r) (e : minus f r ≡ signOf s v) where
     abbrev AsMagnitude : Bool → Type 0
     AsMagnitude d = Rule f (wayOf (toward d) (signOf s v)) (absolute v) (magnitude f r) ↔ Directed f d s v r
@@ -71,15 +60,14 @@ module _ (f : Format) (g : Fair f) where
       ∙ ap (λ b. signed f b (magnitude f r)) (sym e) ∙ signed-is f r p
 
   -- ---- toward positive and toward negative
-  toward-met : (d s : Bool) (v : Value) → RuleIn f (toward d) s v (answer f (toward d) s v)
+  toward-met : (d s : Bool) (v : Value) → Directed f d s v (answer f (toward d) s v)
   toward-met d s v =
       let r = answer f (toward d) s v in
       let (e, o) = answer-rule f g (toward d) s v in
-      directed-is f s v d r .0 (as-magnitude f s v r (answer-pattern (toward d) s v) e d .0 o)
+      as-magnitude f s v r (answer-pattern (toward d) s v) e d .0 o
 
-  toward-met-only : (d s : Bool) (v : Value) (r : ℕ) → RuleIn f (toward d) s v r → answer f (toward d) s v ≡ r
-  toward-met-only d s v r m =
-      let c = directed-is f s v d r .1 m in
+  toward-met-only : (d s : Bool) (v : Value) (r : ℕ) → Directed f d s v r → answer f (toward d) s v ≡ r
+  toward-met-only d s v r c =
       answer-by (toward d) s v r (c .pattern) (c .sign) (as-magnitude f s v r (c .pattern) (c .sign) d .1 c)
 
   -- ---- every attribute

@@ -6,23 +6,18 @@ use mathlib.Core.Bool.{Bool, true, false, not}
 use native.Mathlib.Omega.{arith, by-contra}
 use lib.Pow.{pow-pos}
 use lib.IntN.{ℤ, pos, negℤ, natAbs, _*ℤ_}
-use lib.Signed.{_≤ℤ_}
 use Rattle.algebra.proofs.Products.{mul-le-cancel}
 use Rattle.algebra.proofs.Roots.{sq-le}
 use Rattle.algebra.proofs.Integers.{negZ, leZ-fact, leZ-of}
 use Rattle.ieee.specs.Format.{Format, top, inf, units}
 use Rattle.ieee.specs.Pattern.{Pattern, minus, magnitude, signed, withSign, value}
 use Rattle.ieee.specs.Exact.{Value, dyadic, surd, signOf, absolute, Over, Under}
-use Rattle.ieee.specs.Rule.{Toward, Outward, NotAbove, NotBelow}
+use Rattle.ieee.specs.Rule.{Toward, Outward, Before, Bound, Directed}
 use Rattle.ieee.proofs.Units.{units-mono, units-lt}
 use Rattle.ieee.proofs.Patterns.{inf-below-top, magnitude-signed, pattern-signed, value-is, value-signed}
 use Rattle.ieee.proofs.Signs.{by-sign, signed-zero, signed-abs, signed-times}
 
--- ---- the order of whole numbers, upward or downward: d is true for downward
-abbrev pub Before : Bool → ℤ → ℤ → Type 0
-Before false a b = a ≤ℤ b
-Before true a b = b ≤ℤ a
-
+-- ---- the order of whole numbers, up or down
 -- numbers of one sign: away from zero their order is that of magnitudes, toward zero it is the other way round
 before-like : (t : Bool) (a b : ℕ) → Before t (withSign t a) (withSign t b) ↔ (a ≤ b)
 before-like false a b = (λ h. omega (arith, leZ-fact (pos a) (pos b) (h .le)), λ h. record { le = leZ-of (pos a) (pos b) (omega arith) })
@@ -44,11 +39,7 @@ after-unlike : (t : Bool) (a b : ℕ) → Before (not t) (withSign t a) (withSig
 after-unlike false a b = record { le = leZ-of (negℤ (pos b)) (pos a) (omega (arith, negZ (pos b))) }
 after-unlike true a b = record { le = leZ-of (negℤ (pos a)) (pos b) (omega (arith, negZ (pos a))) }
 
--- ---- a whole number that an exact value does not go beyond, upward or downward
-abbrev pub Bound : Bool → Value → ℤ → Type 0
-Bound false v u = NotAbove v u
-Bound true v u = NotBelow v u
-
+-- ---- a whole number that an exact value does not pass, up or down
 bound-before : (d : Bool) (z : ℤ) (k : ℕ) (u : ℤ) → Bound d (dyadic z k) u ↔ Before d z (u *ℤ pos (2 ^ k))
 bound-before false z k u = (λ h. h, λ h. h)
 bound-before true z k u = (λ h. h, λ h. h)
@@ -96,15 +87,7 @@ bound-unlike true (surd zero) w h = omega (arith, sq-le w 0 (omega arith))
 bound-unlike s (surd (suc n)) zero h = refl
 bound-unlike s (surd (suc n)) (suc w) h = absurd h
 
--- ---- the first number in a direction that bounds the value, or the infinity there where no finite one does
-pub record Directed (f : Format) (d s : Bool) (v : Value) (r : ℕ) : Type 0 where
-  pub pattern : Pattern f r
-  pub within : magnitude f r ≤ inf f
-  pub sign : minus f r ≡ signOf s v
-  pub bounds : magnitude f r < inf f → Bound d v (value f r)
-  pub first : (q : ℕ) → Pattern f q → magnitude f q < inf f → Bound d v (value f q) → (magnitude f r < inf f) × Before d (value f r) (value f q)
-  pub infinity : magnitude f r ≡ inf f → minus f r ≡ d
-
+-- ---- the first number that the value does not pass, or the infinity there
 not-opposite : (t : Bool) → t ≡ not t → ⊥
 not-opposite true e = let z : _≡_ {A = ℕ} 0 1 = cc in omega arith
 not-opposite false e = let z : _≡_ {A = ℕ} 0 1 = cc in omega arith

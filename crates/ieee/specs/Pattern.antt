@@ -23,6 +23,7 @@ signed f s m = cond s (top f) 0 + m
 abbrev pub unlike : Bool → Bool → Bool
 unlike s t = not (Bool·beq s t)
 
+-- the classes (IEEE 754-2019, clause 5.7.2) that operations tell apart: a NaN, an infinity, or a number, by its smallest units, zero among them
 pub data Kind : Type 0 where
   nan infinite : Kind
   finite : ℕ → Kind

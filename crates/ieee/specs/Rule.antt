@@ -14,7 +14,7 @@ use Rattle.ieee.specs.Round.{Way, even, away, shorter, longer, Attribute
 abbrev pub distance : ℕ → ℕ → ℕ
 distance a b = (a - b) + (b - a)
 
--- the root of n and the whole number v differ by at most a / b: v b - a ≤ √n b ≤ v b + a, by squares
+-- the root of n and the whole number v differ by at most a / b: v b - a ≤ √n b ≤ v b + a, by squares; `-` of whole numbers is 0 where it would be less
 abbrev pub Within : ℕ → ℤ → ℕ → ℕ → Type 0
 Within n (pos v) a b = ((v * b - a) * (v * b - a) ≤ n * (b * b)) × (n * (b * b) ≤ (v * b + a) * (v * b + a))
 Within n (negsuc v) a b = (suc v * b ≤ a) × (n * (b * b) ≤ (a - suc v * b) * (a - suc v * b))
@@ -104,28 +104,29 @@ pub record TowardZero (f : Format) (s : Bool) (v : Value) (r : ℕ) : Type 0 whe
   pub sign : minus f r ≡ signOf s v
   pub toward : Toward f (absolute v) (magnitude f r)
 
--- toward positive: the least number that is not below the value, or +infinity where no finite one is
-pub record TowardPositive (f : Format) (s : Bool) (v : Value) (r : ℕ) : Type 0 where
-  pub pattern : Pattern f r
-  pub within : magnitude f r ≤ inf f
-  pub sign : minus f r ≡ signOf s v
-  pub high : magnitude f r < inf f → NotAbove v (value f r)
-  pub least : (q : ℕ) → Pattern f q → magnitude f q < inf f → NotAbove v (value f q) → (magnitude f r < inf f) × (value f r ≤ℤ value f q)
-  pub infinity : magnitude f r ≡ inf f → minus f r ≡ false
+-- the two directions: d is false for up and true for down
+abbrev pub Before : Bool → ℤ → ℤ → Type 0
+Before false a b = a ≤ℤ b
+Before true a b = b ≤ℤ a
 
--- toward negative: the greatest number that is not above the value, or -infinity where no finite one is
-pub record TowardNegative (f : Format) (s : Bool) (v : Value) (r : ℕ) : Type 0 where
+-- going that way, the value does not pass u
+abbrev pub Bound : Bool → Value → ℤ → Type 0
+Bound false v u = NotAbove v u
+Bound true v u = NotBelow v u
+
+-- toward positive, or toward negative: the first number, going that way, that the value does not pass; where no finite one is, the infinity there
+pub record Directed (f : Format) (d s : Bool) (v : Value) (r : ℕ) : Type 0 where
   pub pattern : Pattern f r
   pub within : magnitude f r ≤ inf f
   pub sign : minus f r ≡ signOf s v
-  pub low : magnitude f r < inf f → NotBelow v (value f r)
-  pub most : (q : ℕ) → Pattern f q → magnitude f q < inf f → NotBelow v (value f q) → (magnitude f r < inf f) × (value f q ≤ℤ value f r)
-  pub infinity : magnitude f r ≡ inf f → minus f r ≡ true
+  pub bounds : magnitude f r < inf f → Bound d v (value f r)
+  pub first : (q : ℕ) → Pattern f q → magnitude f q < inf f → Bound d v (value f q) → (magnitude f r < inf f) × Before d (value f r) (value f q)
+  pub infinity : magnitude f r ≡ inf f → minus f r ≡ d
 
 -- the rule for answers, by the attribute
 abbrev pub RuleIn : Format → Attribute → Bool → Value → ℕ → Type 0
 RuleIn f ties-to-even s v r = Once f to-even s v r
 RuleIn f ties-to-away s v r = Once f to-away s v r
 RuleIn f toward-zero s v r = TowardZero f s v r
-RuleIn f toward-positive s v r = TowardPositive f s v r
-RuleIn f toward-negative s v r = TowardNegative f s v r
+RuleIn f toward-positive s v r = Directed f false s v r
+RuleIn f toward-negative s v r = Directed f true s v r
