@@ -5,10 +5,10 @@ use native.Mathlib.Omega.{arith}
 use Rattle.algebra.proofs.Products.{cross}
 use Rattle.ieee.specs.Format.{Format, inf, units}
 use Rattle.ieee.specs.Exact.{ratio, Over, Under}
-use Rattle.ieee.specs.Round.{Way, even, away, shorter, longer, rounded}
+use Rattle.ieee.specs.Round.{Way, even, away, shorter, longer, rounded, middle}
 use Rattle.ieee.proofs.Units.{units-rise}
 use Rattle.ieee.proofs.Sides.{over-not-under}
-use Rattle.ieee.proofs.Past.{mid, Passes, Past, rounded-is}
+use Rattle.ieee.proofs.Past.{Passes, Past, rounded-is}
 
 -- the magnitudes that a way can give: toward zero never gives infinity
 abbrev pub Reach : Format → Way → ℕ → Type 0
@@ -18,21 +18,21 @@ Reach f shorter m = m < inf f
 Reach f longer m = m ≤ inf f
 
 -- a number is below the place midway to the next, and the next above it
-below-mid : (f : Format) (j d : ℕ) → 0 < d → Over (ratio (units f j * d) d) (mid f j) → ⊥
-below-mid f j d p h = omega (arith, units-rise f j, cross (units-rise f j) p)
+below-middle : (f : Format) (j d : ℕ) → 0 < d → Over (ratio (units f j * d) d) (middle f j) → ⊥
+below-middle f j d p h = omega (arith, units-rise f j, cross (units-rise f j) p)
 
-above-mid : (f : Format) (j d : ℕ) → 0 < d → Under (ratio (units f (suc j) * d) d) (mid f j) → ⊥
-above-mid f j d p h = omega (arith, units-rise f j, cross (units-rise f j) p)
+above-middle : (f : Format) (j d : ℕ) → 0 < d → Under (ratio (units f (suc j) * d) d) (middle f j) → ⊥
+above-middle f j d p h = omega (arith, units-rise f j, cross (units-rise f j) p)
 
 passes-own : (f : Format) (w : Way) (j d : ℕ) → 0 < d → Reach f w (suc j) → Passes f w (ratio (units f (suc j) * d) d) j
-passes-own f even j d p r = (over-not-under (ratio (units f (suc j) * d) d) (mid f j) (above-mid f j d p), λ u. absurd (above-mid f j d p u))
-passes-own f away j d p r = over-not-under (ratio (units f (suc j) * d) d) (mid f j) (above-mid f j d p)
+passes-own f even j d p r = (over-not-under (ratio (units f (suc j) * d) d) (middle f j) (above-middle f j d p), λ u. absurd (above-middle f j d p u))
+passes-own f away j d p r = over-not-under (ratio (units f (suc j) * d) d) (middle f j) (above-middle f j d p)
 passes-own f shorter j d p r = (omega arith, omega arith)
 passes-own f longer j d p r = λ u. omega (arith, units-rise f j, cross (units-rise f j) p)
 
 passes-no-more : (f : Format) (w : Way) (m d : ℕ) → 0 < d → Passes f w (ratio (units f m * d) d) m → ⊥
-passes-no-more f even m d p h = below-mid f m d p (h .0)
-passes-no-more f away m d p h = below-mid f m d p h
+passes-no-more f even m d p h = below-middle f m d p (h .0)
+passes-no-more f away m d p h = below-middle f m d p h
 passes-no-more f shorter m d p h = omega (arith, units-rise f m, cross (units-rise f m) p)
 passes-no-more f longer m d p h = h (omega arith)
 

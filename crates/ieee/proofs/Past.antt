@@ -8,25 +8,21 @@ use lib.Pow.{pow-add, pow-pos}
 use Rattle.algebra.proofs.Products.{diff, order}
 use Rattle.ieee.specs.Format.{Format, inf, units}
 use Rattle.ieee.specs.Exact.{Exact, Over, Under}
-use Rattle.ieee.specs.Round.{Way, even, away, shorter, longer, passes, past, rounded}
+use Rattle.ieee.specs.Round.{Way, even, away, shorter, longer, passes, past, rounded, middle}
 use Rattle.ieee.proofs.Units.{units-mono, units-lt}
 use Rattle.ieee.proofs.Search.{Falls, Last, last-unique, greatest-last}
 use Rattle.ieee.proofs.Decide.{Reads, so, holds, fails, is-true, is-false, leb-reads, eqb-reads, and-reads, not-reads, implies-reads}
 use Rattle.ieee.proofs.Sides.{Sound, over-reads, under-reads, over-down, under-up, apart}
 
--- twice the place midway between j and the next
-abbrev pub mid : Format → ℕ → ℕ
-mid f j = units f j + units f (suc j)
+pub middle-mono : (f : Format) {i j : ℕ} → i ≤ j → middle f i ≤ middle f j
+middle-mono f {i} {j} h = omega (arith, units-mono f h, units-mono f {i = suc i} {j = suc j} (omega arith))
 
-pub mid-mono : (f : Format) {i j : ℕ} → i ≤ j → mid f i ≤ mid f j
-mid-mono f {i} {j} h = omega (arith, units-mono f h, units-mono f {i = suc i} {j = suc j} (omega arith))
-
-pub mid-lt : (f : Format) {i j : ℕ} → i < j → mid f i < mid f j
-mid-lt f {i} {j} h = omega (arith, units-lt f h, units-lt f {i = suc i} {j = suc j} (omega arith))
+pub middle-lt : (f : Format) {i j : ℕ} → i < j → middle f i < middle f j
+middle-lt f {i} {j} h = omega (arith, units-lt f h, units-lt f {i = suc i} {j = suc j} (omega arith))
 
 abbrev pub Passes : Format → Way → Exact → ℕ → Type 0
-Passes f even x j = Over x (mid f j) × (Under x (mid f j) → suc j % 2 ≡ 0)
-Passes f away x j = Over x (mid f j)
+Passes f even x j = Over x (middle f j) × (Under x (middle f j) → suc j % 2 ≡ 0)
+Passes f away x j = Over x (middle f j)
 Passes f shorter x j = Over x (2 * units f (suc j)) × (suc j ≡ inf f → ⊥)
 Passes f longer x j = Under x (2 * units f j) → ⊥
 
@@ -36,8 +32,8 @@ Past f w x (suc j) = (suc j ≤ inf f) × Passes f w x j
 
 pub passes-reads : (f : Format) (w : Way) (x : Exact) (j : ℕ) → Reads (Passes f w x j) (passes f w x j)
 unfolding passes
-passes-reads f even x j = and-reads (over-reads x (mid f j)) (implies-reads (under-reads x (mid f j)) (eqb-reads (suc j % 2) 0))
-passes-reads f away x j = over-reads x (mid f j)
+passes-reads f even x j = and-reads (over-reads x (middle f j)) (implies-reads (under-reads x (middle f j)) (eqb-reads (suc j % 2) 0))
+passes-reads f away x j = over-reads x (middle f j)
 passes-reads f shorter x j = and-reads (over-reads x (2 * units f (suc j))) (not-reads (eqb-reads (suc j) (inf f)))
 passes-reads f longer x j = not-reads (under-reads x (2 * units f j))
 
@@ -46,8 +42,8 @@ past-reads f w x zero = so tt
 past-reads f w x (suc j) = and-reads (leb-reads (suc j) (inf f)) (passes-reads f w x j)
 
 passes-falls : (f : Format) (w : Way) (x : Exact) → Sound x → (i j : ℕ) → i < j → j < inf f → Passes f w x j → Passes f w x i
-passes-falls f even x s i j l h p = (over-down x (mid-mono f (omega arith)) (p .0), λ u. absurd (apart x s (mid-lt f l) u (p .0)))
-passes-falls f away x s i j l h p = over-down x (mid-mono f (omega arith)) p
+passes-falls f even x s i j l h p = (over-down x (middle-mono f (omega arith)) (p .0), λ u. absurd (apart x s (middle-lt f l) u (p .0)))
+passes-falls f away x s i j l h p = over-down x (middle-mono f (omega arith)) p
 passes-falls f shorter x s i j l h p = (over-down x (omega (arith, units-mono f {i = suc i} {j = suc j} (omega arith))) (p .0), omega arith)
 passes-falls f longer x s i j l h p = λ u. p (under-up x (omega (arith, units-mono f {i = i} {j = j} (omega arith))) u)
 

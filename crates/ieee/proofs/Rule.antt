@@ -1,6 +1,6 @@
 -- Rounding to the nearest, ties to even or away, meets the rule, and nothing else does. Assumes nothing.
 use Prim.Native.Nat.{ℕ, zero, suc, _+_, _-_, _*_, _%_, _^_, _≤_, _<_}
-use mathlib.Core.Path.{_≡_, sym, _∙_, subst}
+use mathlib.Core.Path.{_≡_, sym, ap, _∙_, subst}
 use native.Mathlib.Nat.{mul-le-mul}
 use native.Mathlib.Omega.{arith, both-ways}
 use lib.Pow.{pow-pos, pow-mono}
@@ -8,13 +8,13 @@ use Rattle.algebra.proofs.Products.{order, times}
 use Rattle.algebra.proofs.Powers.{pow-diff}
 use Rattle.ieee.specs.Format.{Format, Fair, inf, units}
 use Rattle.ieee.specs.Exact.{Exact, Over, Under}
-use Rattle.ieee.specs.Round.{rounded}
+use Rattle.ieee.specs.Round.{rounded, middle}
 use Rattle.ieee.specs.Rule.{AsNear, halfway, Nearest, Ties, to-even, to-away, tiesWay, Preferred}
 use Rattle.ieee.proofs.Units.{units-mono, units-lt, units-lt-inv, units-rise}
 use Rattle.ieee.proofs.Decide.{split}
 use Rattle.ieee.proofs.Sides.{Sound, under-reads, over-down, under-up, under-not-over, over-not-under}
 use Rattle.ieee.proofs.Nearness.{near-by-sum}
-use Rattle.ieee.proofs.Past.{mid, Passes, Past, past-down, rounded-is, rounded-past, rounded-not-past, rounded-le}
+use Rattle.ieee.proofs.Past.{Passes, Past, past-down, rounded-is, rounded-past, rounded-not-past, rounded-le}
 
 -- ---- nearness by the sum
 near-under : (x : Exact) → Sound x → (u v : ℕ) → u < v → AsNear x u v → Under x (u + v)
@@ -39,22 +39,22 @@ inf-even f g = go (2 ^ f .expo - 1) (2 ^ f .frac) (2 ^ (f .frac - 1)) (pow-diff 
     go a b c e = omega (arith, times a e)
 
 -- ---- what passing the place between m and the next says, and what not passing it says
-passes-says : (f : Format) (t : Ties) (x : Exact) (j : ℕ) → Passes f (tiesWay t) x j → Over x (mid f j) × (Under x (mid f j) → Preferred t (suc j) j)
+passes-says : (f : Format) (t : Ties) (x : Exact) (j : ℕ) → Passes f (tiesWay t) x j → Over x (middle f j) × (Under x (middle f j) → Preferred t (suc j) j)
 passes-says f to-even x j p = p
 passes-says f to-away x j p = (p, λ u. omega arith)
 
-says-passes : (f : Format) (t : Ties) (x : Exact) (j : ℕ) → Over x (mid f j) → (Under x (mid f j) → Preferred t (suc j) j) → Passes f (tiesWay t) x j
+says-passes : (f : Format) (t : Ties) (x : Exact) (j : ℕ) → Over x (middle f j) → (Under x (middle f j) → Preferred t (suc j) j) → Passes f (tiesWay t) x j
 says-passes f to-even x j o q = (o, q)
 says-passes f to-away x j o q = o
 
-not-passes-says : (f : Format) (t : Ties) (x : Exact) (m : ℕ) → (Passes f (tiesWay t) x m → ⊥) → Under x (mid f m) × (Over x (mid f m) → Preferred t m (suc m))
+not-passes-says : (f : Format) (t : Ties) (x : Exact) (m : ℕ) → (Passes f (tiesWay t) x m → ⊥) → Under x (middle f m) × (Over x (middle f m) → Preferred t m (suc m))
 not-passes-says f to-even x m n = (
-  split (under-reads x (mid f m)) (λ u. u) (λ u. absurd (n (over-not-under x (mid f m) u, λ v. absurd (u v)))),
+  split (under-reads x (middle f m)) (λ u. u) (λ u. absurd (n (over-not-under x (middle f m) u, λ v. absurd (u v)))),
   λ o. order (m % 2) 0 (λ e. omega arith) (λ e. absurd (n (o, λ u. omega arith))),
 )
-not-passes-says f to-away x m n = (under-not-over x (mid f m) n, λ o. absurd (n o))
+not-passes-says f to-away x m n = (under-not-over x (middle f m) n, λ o. absurd (n o))
 
-both-say : (f : Format) (t : Ties) (x : Exact) (m : ℕ) → Passes f (tiesWay t) x m → Under x (mid f m) → (Over x (mid f m) → Preferred t m (suc m)) → ⊥
+both-say : (f : Format) (t : Ties) (x : Exact) (m : ℕ) → Passes f (tiesWay t) x m → Under x (middle f m) → (Over x (middle f m) → Preferred t m (suc m)) → ⊥
 both-say f to-even x m p u q = omega (arith, p .1 u, q (p .0))
 both-say f to-away x m p u q = omega (arith, q p)
 
@@ -76,23 +76,24 @@ module _ (f : Format) (g : Fair f) (t : Ties) (x : Exact) (s : Sound x) where
   suc-last : suc (inf f - 1) ≡ inf f
   suc-last = omega (arith, inf-pos f g)
 
-  to-mid : Over x (halfway f) → Over x (mid f (inf f - 1))
-  to-mid = subst (λ k. Over x (units f (inf f - 1) + units f k)) (sym suc-last)
+  -- the halfway point is the middle between the last finite number and what would be next
+  to-middle : Over x (halfway f) → Over x (middle f (inf f - 1))
+  to-middle = over-down x (omega (arith, ap (units f) suc-last))
 
-  from-mid : Over x (mid f (inf f - 1)) → Over x (halfway f)
-  from-mid = subst (λ k. Over x (units f (inf f - 1) + units f k)) suc-last
+  from-middle : Over x (middle f (inf f - 1)) → Over x (halfway f)
+  from-middle = over-down x (omega (arith, ap (units f) suc-last))
 
   -- what was passed lies below, and the next not
   below : (m : ℕ) → Past f (tiesWay t) x m → (k : ℕ) → k < m → Over x (units f m + units f k) × (Under x (units f m + units f k) → Preferred t m k)
   below zero p k l = absurd (omega arith)
   below (suc i) p k l =
-      let h : units f (suc i) + units f k ≤ mid f i = omega (arith, units-mono f {i = k} {j = i} (omega arith)) in
+      let h : units f (suc i) + units f k ≤ middle f i = omega (arith, units-mono f {i = k} {j = i} (omega arith)) in
       let (o, q) = passes-says f t x i (p .1) in
       (over-down x h o, λ u. prefer-low t i k (omega arith) (q (under-up x h u)))
 
   above : (m : ℕ) → (Past f (tiesWay t) x (suc m) → ⊥) → m < inf f → (k : ℕ) → m < k → Under x (units f m + units f k) × (Over x (units f m + units f k) → Preferred t m k)
   above m n l k h =
-      let b : mid f m ≤ units f m + units f k = omega (arith, units-mono f h) in
+      let b : middle f m ≤ units f m + units f k = omega (arith, units-mono f h) in
       let (u, q) = not-passes-says f t x m (λ p. n (l, p)) in
       (under-up x b u, λ o. prefer-high t m k (q (over-down x b o)))
 
@@ -109,10 +110,10 @@ module _ (f : Format) (g : Fair f) (t : Ties) (x : Exact) (s : Sound x) where
       (λ h. let q : m < k = omega arith in above m n l k q .1 (over-down x (omega arith) (near-over x s (units f k) (units f m) (units-lt f q) a)))
 
   top-passed : Over x (halfway f) → Past f (tiesWay t) x (suc (inf f - 1))
-  top-passed o = (omega (arith, suc-last), says-passes f t x (inf f - 1) (to-mid o) (λ u. inf-preferred f g t))
+  top-passed o = (omega (arith, suc-last), says-passes f t x (inf f - 1) (to-middle o) (λ u. inf-preferred f g t))
 
   top-over : (k : ℕ) → k ≡ inf f → Past f (tiesWay t) x k → Over x (halfway f)
-  top-over k e p = from-mid (passes-says f t x (inf f - 1) (subst (Past f (tiesWay t) x) (e ∙ sym suc-last) p .1) .0)
+  top-over k e p = from-middle (passes-says f t x (inf f - 1) (subst (Past f (tiesWay t) x) (e ∙ sym suc-last) p .1) .0)
 
   pub rounded-nearest : Nearest f t x (rounded f (tiesWay t) x)
   rounded-nearest = record { within = rounded-le f (tiesWay t) x; near = λ l k h. near-of m p n l k; tie = λ l k h. tie-of m p n l k; overflow = (λ e. top-over m e p, down) }

@@ -10,11 +10,15 @@ use Rattle.ieee.specs.Exact.{Exact, Value, ratio, over, under, signOf, a
 pub data Way : Type 0 where
   even away shorter longer : Way
 
+-- twice the place midway between a magnitude and the next
+abbrev pub middle : Format → ℕ → ℕ
+middle f j = units f j + units f (suc j)
+
 -- x is at or past the place from which on the answer is at least suc j
 unfoldable pub passes : Format → Way → Exact → ℕ → Bool
 unfolding units
-passes f even x j = over x (units f j + units f (suc j)) && (not (under x (units f j + units f (suc j))) || eqb (suc j % 2) 0)
-passes f away x j = over x (units f j + units f (suc j))
+passes f even x j = over x (middle f j) && (not (under x (middle f j)) || eqb (suc j % 2) 0)
+passes f away x j = over x (middle f j)
 passes f shorter x j = over x (2 * units f (suc j)) && not (eqb (suc j) (inf f))
 passes f longer x j = not (under x (2 * units f j))
 
