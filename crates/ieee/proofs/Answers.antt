@@ -1,5 +1,5 @@
 -- The rule for answers: an exact value rounded once to the nearest meets it, and nothing else does. Assumes nothing.
-use Prim.Native.Nat.{ℕ, zero, _<_}
+use Prim.Native.Nat.{ℕ, _<_}
 use mathlib.Core.Path.{_≡_, refl, sym, ap, _∙_, subst, subst₂}
 use mathlib.Core.Bool.{Bool, not}
 use native.Mathlib.Omega.{arith}
@@ -10,7 +10,7 @@ use Rattle.ieee.specs.Exact.{Value, signOf, absolute}
 use Rattle.ieee.specs.Round.{rounded, answer, wayOf}
 use Rattle.ieee.specs.Rule.{Ties, to-even, to-away, tiesWay, tiesAttribute, Preferred, AsNear, AsNearℤ, Nearest, Once}
 use Rattle.ieee.proofs.Units.{units-zero, units-inj}
-use Rattle.ieee.proofs.Patterns.{inf-below-top, magnitude-signed, minus-signed, pattern-signed, signed-is, value-is, value-signed}
+use Rattle.ieee.proofs.Patterns.{inf-below-top, magnitude-signed, minus-signed, pattern-signed, signed-is, value-with, value-signed}
 use Rattle.ieee.proofs.Signs.{by-sign, sound, abs-signed, signed-zero, near-like, near-unlike, unlike-zero}
 use Rattle.ieee.proofs.Rule.{inf-pos, rounded-nearest, nearest-rounded}
 
@@ -40,9 +40,6 @@ module _ (f : Format) (g : Fair f) (t : Ties) (s : Bool) (v : Value) where
     unfolding r
     value-r = value-signed f (signOf s v) m below-top
 
-    value-q : (q : ℕ) (b : Bool) → minus f q ≡ b → value f q ≡ withSign b (units f (magnitude f q))
-    value-q q b e = value-is f q ∙ ap (λ c. withSign c (units f (magnitude f q))) e
-
     -- it is as near as zero
     as-near-as-zero : m < inf f → AsNear (absolute v) (units f m) 0
     as-near-as-zero l = subst (AsNear (absolute v) (units f m)) (units-zero f) (n .near l 0 (inf-pos f g))
@@ -51,10 +48,10 @@ module _ (f : Format) (g : Fair f) (t : Ties) (s : Bool) (v : Value) where
     nearer l q h = by-sign (minus f q) (signOf s v) like other
       where
         like : minus f q ≡ signOf s v → AsNearℤ v (value f r) (value f q)
-        like e = subst₂ (AsNearℤ v) (sym value-r) (sym (value-q q (signOf s v) e)) (near-like s v (units f m) (units f (magnitude f q)) .1 (n .near l (magnitude f q) h))
+        like e = subst₂ (AsNearℤ v) (sym value-r) (sym (value-with f q (signOf s v) e)) (near-like s v (units f m) (units f (magnitude f q)) .1 (n .near l (magnitude f q) h))
 
         other : minus f q ≡ not (signOf s v) → AsNearℤ v (value f r) (value f q)
-        other e = subst₂ (AsNearℤ v) (sym value-r) (sym (value-q q (not (signOf s v)) e)) (near-unlike s v (units f m) (units f (magnitude f q)) (as-near-as-zero l))
+        other e = subst₂ (AsNearℤ v) (sym value-r) (sym (value-with f q (not (signOf s v)) e)) (near-unlike s v (units f m) (units f (magnitude f q)) (as-near-as-zero l))
 
     -- a tie with a number of the other sign is one with zero
     tied : m < inf f → (q : ℕ) → magnitude f q < inf f → (value f q ≡ value f r → ⊥) → AsNearℤ v (value f q) (value f r) → Preferred t m (magnitude f q)
@@ -63,15 +60,15 @@ module _ (f : Format) (g : Fair f) (t : Ties) (s : Bool) (v : Value) where
         like : minus f q ≡ signOf s v → Preferred t m (magnitude f q)
         like e =
             n .tie l (magnitude f q) h
-            (λ c. d (value-q q (signOf s v) e ∙ ap (λ j. withSign (signOf s v) (units f j)) c ∙ sym value-r))
-            (near-like s v (units f (magnitude f q)) (units f m) .0 (subst₂ (AsNearℤ v) (value-q q (signOf s v) e) value-r a))
+            (λ c. d (value-with f q (signOf s v) e ∙ ap (λ j. withSign (signOf s v) (units f j)) c ∙ sym value-r))
+            (near-like s v (units f (magnitude f q)) (units f m) .0 (subst₂ (AsNearℤ v) (value-with f q (signOf s v) e) value-r a))
 
         none : minus f q ≡ not (signOf s v) → units f (magnitude f q) ≡ 0
-        none e = unlike-zero s v (units f m) (units f (magnitude f q)) (as-near-as-zero l) (subst₂ (AsNearℤ v) (value-q q (not (signOf s v)) e) value-r a)
+        none e = unlike-zero s v (units f m) (units f (magnitude f q)) (as-near-as-zero l) (subst₂ (AsNearℤ v) (value-with f q (not (signOf s v)) e) value-r a)
 
         zero-q : minus f q ≡ not (signOf s v) → value f q ≡ withSign (signOf s v) (units f (magnitude f q))
         zero-q e =
-            value-q q (not (signOf s v)) e ∙ ap (withSign (not (signOf s v))) (none e) ∙ signed-zero (not (signOf s v))
+            value-with f q (not (signOf s v)) e ∙ ap (withSign (not (signOf s v))) (none e) ∙ signed-zero (not (signOf s v))
             ∙ sym (signed-zero (signOf s v)) ∙ ap (withSign (signOf s v)) (sym (none e))
 
         other : minus f q ≡ not (signOf s v) → Preferred t m (magnitude f q)
@@ -95,7 +92,7 @@ module _ (f : Format) (g : Fair f) (t : Ties) (s : Bool) (v : Value) where
   -- ---- and back: what meets the rule for answers has the value's sign and a magnitude that meets the rule for magnitudes
   module _ (r : ℕ) (o : Once f t s v r) where
     value-own : value f r ≡ withSign (signOf s v) (units f (magnitude f r))
-    value-own = value-is f r ∙ ap (λ b. withSign b (units f (magnitude f r))) (o .sign)
+    value-own = value-with f r (signOf s v) (o .sign)
 
     at : ℕ → ℕ
     at k = signed f (signOf s v) k

@@ -14,7 +14,7 @@ use Rattle.ieee.specs.Pattern.{Pattern, minus, magnitude, signed, withSi
 use Rattle.ieee.specs.Exact.{Value, dyadic, surd, signOf, absolute, Over, Under}
 use Rattle.ieee.specs.Rule.{Toward, Outward, Before, Bound, Directed}
 use Rattle.ieee.proofs.Units.{units-mono, units-lt}
-use Rattle.ieee.proofs.Patterns.{inf-below-top, magnitude-signed, pattern-signed, value-is, value-signed}
+use Rattle.ieee.proofs.Patterns.{inf-below-top, magnitude-signed, pattern-signed, value-with, value-signed}
 use Rattle.ieee.proofs.Signs.{by-sign, signed-zero, signed-abs, signed-times}
 
 -- ---- the order of whole numbers, up or down
@@ -100,14 +100,11 @@ module _ (f : Format) (s : Bool) (v : Value) where
   abbrev t : Bool
   t = signOf s v
 
-  value-by : (q : ℕ) (b : Bool) → minus f q ≡ b → value f q ≡ withSign b (units f (magnitude f q))
-  value-by q b e = value-is f q ∙ ap (λ c. withSign c (units f (magnitude f q))) e
-
   -- a number that bounds the value away from zero has the value's sign, or is zero
   value-away : (q : ℕ) → Bound t v (value f q) → value f q ≡ withSign t (units f (magnitude f q))
   value-away q h =
-      by-sign (minus f q) t (value-by q t) (λ e.
-      let w = value-by q (not t) e in
+      by-sign (minus f q) t (value-with f q t) (λ e.
+      let w = value-with f q (not t) e in
       let n = bound-unlike s v (units f (magnitude f q)) (subst (Bound t v) w h) in
       w ∙ ap (withSign (not t)) n ∙ signed-zero (not t) ∙ sym (signed-zero t) ∙ ap (withSign t) (sym n))
 
@@ -117,7 +114,7 @@ module _ (f : Format) (s : Bool) (v : Value) where
     u = units f (magnitude f r)
 
     value-r : value f r ≡ withSign t u
-    value-r = value-by r t e
+    value-r = value-with f r t e
 
     -- away from zero: the least magnitude that is at least the value's is first of those that bound the value
     away-first : Outward f (absolute v) (magnitude f r) → (q : ℕ) → magnitude f q < inf f → Bound t v (value f q) → (magnitude f r < inf f) × Before t (value f r) (value f q)
@@ -143,10 +140,10 @@ module _ (f : Format) (s : Bool) (v : Value) where
         let n = units f (magnitude f q) in
         by-sign (minus f q) t
         (λ i.
-        let w = value-by q t i in
+        let w = value-with f q t i in
         let l = o .most (magnitude f q) h (bound-toward s v n .0 (subst (Bound (not t) v) w b)) in
         subst₂ (Before (not t)) (sym value-r) (sym w) (after-like t u n .1 (units-mono f l)))
-        (λ i. subst₂ (Before (not t)) (sym value-r) (sym (value-by q (not t) i)) (after-unlike t u n))
+        (λ i. subst₂ (Before (not t)) (sym value-r) (sym (value-with f q (not t) i)) (after-unlike t u n))
 
     pub toward-directed : Toward f (absolute v) (magnitude f r) → Directed f (not t) s v r
     toward-directed o =

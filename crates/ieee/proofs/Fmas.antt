@@ -1,7 +1,7 @@
 -- fma: for finite operands the exact x y + z, rounded once; and every other row. Assumes nothing.
-use Prim.Native.Nat.{ℕ, zero, suc, _+_, _*_, _^_, _<_}
+use Prim.Native.Nat.{ℕ, suc, _*_, _^_, _<_}
 use mathlib.Core.Path.{_≡_, refl, sym, ap, _∙_, subst}
-use mathlib.Core.Bool.{Bool, true, false, not, cond}
+use mathlib.Core.Bool.{Bool, true, false, cond}
 use native.Mathlib.Omega.{arith}
 use lib.Pow.{pow-pos}
 use lib.IntN.{pos, negℤ, _+ℤ_, _*ℤ_, +ℤ-idl}
@@ -13,7 +13,7 @@ use Rattle.ieee.specs.Exact.{dyadic}
 use Rattle.ieee.specs.Round.{Attribute, ties-to-even, ties-to-away, toward-zero, toward-positive, toward-negative, answer}
 use Rattle.ieee.specs.Rule.{to-even, Once, RuleIn}
 use Rattle.ieee.specs.Fma.{times, sumOf, zeroSum, plusBy, fmaIn, fmaOf, exactFma, zeroSign}
-use Rattle.ieee.proofs.Patterns.{value-is, finite-is, infinity-is, signed-is}
+use Rattle.ieee.proofs.Patterns.{value-finite, finite-is, infinity-is, signed-is}
 use Rattle.ieee.proofs.Signs.{signed-times, signed-product, signed-zero}
 use Rattle.ieee.proofs.Exacts.{answer-zero, sign-given, answer-held}
 use Rattle.ieee.proofs.Attributes.{answer-met}
@@ -24,15 +24,12 @@ module _ (f : Format) where
   unfolding fmaIn
   fma-by a x y z p q r = λ i. plusBy f a (unlike (minus f x) (minus f y)) (times (p i) (q i)) (minus f z) (r i)
 
-  value-of : (x u : ℕ) → kind f x ≡ finite u → value f x ≡ withSign (minus f x) u
-  value-of x u h = value-is f x ∙ ap (withSign (minus f x)) (finite-is f x u h .counts)
-
   numerator : (x y z u v w : ℕ) → kind f x ≡ finite u → kind f y ≡ finite v → kind f z ≡ finite w
       → withSign (unlike (minus f x) (minus f y)) (u * v) +ℤ withSign (minus f z) (w * 2 ^ low f) ≡ value f x *ℤ value f y +ℤ value f z *ℤ pos (2 ^ low f)
   numerator x y z u v w p q r =
       let e = signed-product (minus f x) (minus f y) u v in
       let g = signed-times (minus f z) w (2 ^ low f) in
-      sym ((λ i. value-of x u p i *ℤ value-of y v q i +ℤ value-of z w r i *ℤ pos (2 ^ low f)) ∙ (λ i. e i +ℤ g i))
+      sym ((λ i. value-finite f x u p i *ℤ value-finite f y v q i +ℤ value-finite f z w r i *ℤ pos (2 ^ low f)) ∙ (λ i. e i +ℤ g i))
 
   sum-exact : (x y z u v w : ℕ) → kind f x ≡ finite u → kind f y ≡ finite v → kind f z ≡ finite w
       → sumOf f (unlike (minus f x) (minus f y)) (u * v) (minus f z) w ≡ exactFma f x y z

@@ -10,7 +10,7 @@ use Rattle.ieee.specs.Round.{Way, even, away, shorter, longer, passes, r
 use Rattle.ieee.proofs.Units.{units-rise, units-suc, units-at, gap}
 use Rattle.ieee.proofs.Decide.{Reads, so, not-so}
 use Rattle.ieee.proofs.Sides.{Sound, over-down, apart, under-not-over}
-use Rattle.ieee.proofs.Past.{Passes, Past, passes-reads, rounded-is, rounded-past}
+use Rattle.ieee.proofs.Past.{Passes, Past, passes-reads, rounded-is}
 
 -- x is at least m, and below the next
 pub record Between (f : Format) (x : Exact) (m : ℕ) : Type 0 where
@@ -43,11 +43,7 @@ local f w x s m b = go (passes-reads f w x m)
     go (so p) = rounded-is f w x s (suc m) (b .finite, p) (λ h. not-yet f w x (suc m) (b .high) (h .1))
     go (not-so n) = rounded-is f w x s m (past-m m (b .finite) (b .low)) (λ h. n (h .1))
 
--- toward zero, x lies at or above the answer; and below the next, unless that is infinity
-pub shorter-low : (f : Format) (x : Exact) (j : ℕ) → suc j ≡ rounded f shorter x → Over x (2 * units f (suc j))
-shorter-low f x j e = subst (Past f shorter x) (sym e) (rounded-past f shorter x) .1 .0
-
--- the same by digits: a normal number's exponent field is suc c, and its fraction r
+-- the bracket by digits: a normal number's exponent field is suc c, and its fraction r
 pub between-normal : (f : Format) (x : Exact) (c r : ℕ) → r < 2 ^ f .frac → suc c < 2 ^ f .expo - 1
     → Over x (2 * ((2 ^ f .frac + r) * 2 ^ c)) → (Over x (2 * (suc (2 ^ f .frac + r) * 2 ^ c)) → ⊥) → Between f x (suc c * 2 ^ f .frac + r)
 between-normal f x c r l h o n = record { finite = digits-lt h l; low = subst (λ u. Over x (2 * u)) (sym here) o; high = λ t. n (subst (λ u. Over x (2 * u)) there t) }

@@ -1,15 +1,15 @@
 -- The whole number nearest to a ratio, the even one of two: `whole even` gives it, and it is the only one. Assumes nothing.
 use Prim.Native.Nat.{ℕ, zero, suc, _+_, _*_, _/_, _%_, _≤_, _<_}
-use mathlib.Core.Path.{_≡_, refl}
-use mathlib.Core.Bool.{Bool, true, false, _&&_, _||_, cond}
+use mathlib.Core.Path.{_≡_}
+use mathlib.Core.Logic.{_⊎_, inl, inr}
+use mathlib.Core.Bool.{Bool, cond}
 use native.Mathlib.Omega.{arith, by-contra, both-ways}
-use lib.Dec.{ltb, eqb}
-use borrow.Author.Tests.{ltb-true, ltb-false, eqb-true, eqb-false}
 use Rattle.algebra.proofs.Products.{times-le}
 use Rattle.algebra.proofs.Quotients.{div-mod}
 use Rattle.ieee.specs.Rule.{distance}
 use Rattle.ieee.specs.Round.{even}
 use Rattle.ieee.specs.Whole.{whole}
+use Rattle.ieee.proofs.Decide.{Reads, so, not-so, leb-reads, eqb-reads, and-reads, or-reads}
 
 -- n is nearest to u / d, and even where another is as near
 pub record NearestTo (u d n : ℕ) : Type 0 where
@@ -17,13 +17,18 @@ pub record NearestTo (u d n : ℕ) : Type 0 where
   pub tie : 2 * distance u (n * d) ≡ d → n % 2 ≡ 0
 
 pub whole-even-nearest : (u d : ℕ) → 0 < d → NearestTo u d (whole even u d)
-whole-even-nearest u d p = go (ltb d (2 * (u % d))) (eqb (2 * (u % d)) d) (eqb (u / d % 2) 1) refl refl refl
+whole-even-nearest u d p = go (or-reads (leb-reads _ _) (and-reads (eqb-reads _ _) (eqb-reads _ _)))
   where
-    go : (a b c : Bool) → ltb d (2 * (u % d)) ≡ a → eqb (2 * (u % d)) d ≡ b → eqb (u / d % 2) 1 ≡ c → NearestTo u d (u / d + cond (a || (b && c)) 1 0)
-    go true b c l e o = omega (arith, div-mod u d p, ltb-true d (2 * (u % d)) l)
-    go false true true l e o = omega (arith, div-mod u d p, eqb-true (2 * (u % d)) d e, eqb-true (u / d % 2) 1 o)
-    go false true false l e o = omega (arith, div-mod u d p, eqb-true (2 * (u % d)) d e, eqb-false (u / d % 2) 1 o)
-    go false false c l e o = omega (arith, div-mod u d p, ltb-false d (2 * (u % d)) l, eqb-false (2 * (u % d)) d e)
+    -- past the middle, or at the middle of an odd number and the next
+    go : {b : Bool} → Reads ((d < 2 * (u % d)) ⊎ ((2 * (u % d) ≡ d) × (u / d % 2 ≡ 1))) b → NearestTo u d (u / d + cond b 1 0)
+    go (so (inl h)) = omega (arith, div-mod u d p)
+    go (so (inr h)) = omega (arith, div-mod u d p)
+    go (not-so n) =
+        let l : 2 * (u % d) ≤ d = by-contra (2 * (u % d)) d (λ h. n (inl h)) in
+        record {
+          half = omega (arith, div-mod u d p);
+          tie = λ t. let o = by-contra (u / d % 2) 0 (λ o. n (inr (omega (arith, div-mod u d p)))) in omega arith;
+        }
 
 -- of two different ones the greater is the next, and both are halfway
 nearest-le : (u d m n : ℕ) → 0 < d → NearestTo u d m → NearestTo u d n → m ≤ n

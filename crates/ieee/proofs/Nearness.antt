@@ -8,7 +8,7 @@ use lib.IntN.{pos}
 use Rattle.algebra.proofs.Products.{order, cross, times, times-le}
 use Rattle.algebra.proofs.Roots.{sq-le, sq-lt, sum-below, sum-above, Root, root-exists}
 use Rattle.ieee.specs.Exact.{Exact, ratio, root, Over, Under}
-use Rattle.ieee.specs.Rule.{distance, Within, AsNear}
+use Rattle.ieee.specs.Rule.{Within, AsNear}
 use Rattle.ieee.proofs.Sides.{Sound}
 
 -- ---- for a root: from the sum to the distances

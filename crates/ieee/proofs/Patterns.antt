@@ -1,10 +1,9 @@
 -- Patterns taken apart and put together: sign, magnitude, kind and value. Assumes nothing.
-use Prim.Native.Nat.{ℕ, zero, suc, _+_, _-_, _%_, _≤_, _<_}
+use Prim.Native.Nat.{ℕ, suc, _+_, _-_, _%_, _≤_, _<_}
 use mathlib.Core.Path.{_≡_, refl, sym, ap, _∙_}
 use mathlib.Core.Bool.{Bool, true, false}
-use native.Mathlib.Nat.{mod-eq-of-lt, mod-lt}
+use native.Mathlib.Nat.{mod-eq-of-lt}
 use native.Mathlib.Omega.{arith, both-ways}
-use lib.Pow.{pow-pos}
 use borrow.Author.Tests.{lt-ltb, le-ltb, lt-leb, le-leb, eq-eqb, ne-eqb}
 use Rattle.algebra.proofs.Products.{order}
 use Rattle.algebra.proofs.Quotients.{mod-is}
@@ -15,9 +14,6 @@ use Rattle.ieee.proofs.Past.{inf-lt}
 
 -- ---- sign and magnitude
 module _ (f : Format) where
-  pub magnitude-lt : (x : ℕ) → magnitude f x < top f
-  magnitude-lt x = mod-lt x (pow-pos (f .frac + f .expo))
-
   pub inf-below-top : inf f < top f
   inf-below-top = inf-lt f
 
@@ -107,6 +103,13 @@ module _ (f : Format) where
   pub value-is : (x : ℕ) → value f x ≡ withSign (minus f x) (units f (magnitude f x))
   unfolding value
   value-is x = refl
+
+  -- with its sign, and with its units, known
+  pub value-with : (x : ℕ) (b : Bool) → minus f x ≡ b → value f x ≡ withSign b (units f (magnitude f x))
+  value-with x b e = value-is x ∙ ap (λ c. withSign c (units f (magnitude f x))) e
+
+  pub value-finite : (x u : ℕ) → kind f x ≡ finite u → value f x ≡ withSign (minus f x) u
+  value-finite x u h = value-is x ∙ ap (withSign (minus f x)) (finite-is x u h .counts)
 
   pub value-signed : (s : Bool) (m : ℕ) → m < top f → value f (signed f s m) ≡ withSign s (units f m)
   value-signed s m l = value-is (signed f s m) ∙ (λ i. withSign (minus-signed s m l i) (units f (magnitude-signed s m l i)))

@@ -1,11 +1,10 @@
 -- remquo is exact: what is left of x by the nearest whole multiple of y, nothing rounded, and nothing else is. Assumes nothing.
 use Prim.Native.Nat.{ℕ, suc, _-_, _*_, _%_, _^_, _≤_, _<_}
 use mathlib.Core.Path.{_≡_, refl, sym, ap, _∙_, subst}
-use mathlib.Core.Bool.{Bool, true, false, not, cond}
+use mathlib.Core.Bool.{Bool, not}
 use native.Mathlib.Omega.{arith}
-use lib.Dec.{ltb}
 use lib.IntN.{ℤ, pos, _+ℤ_, _*ℤ_}
-use borrow.Author.Tests.{ltb-true, ltb-false}
+use borrow.Author.Tests.{lt-ltb, le-ltb}
 use Rattle.algebra.proofs.Products.{order}
 use Rattle.ieee.specs.Format.{Format, inf, canonical, units}
 use Rattle.ieee.specs.Pattern.{Pattern, minus, magnitude, signed, unlike, nan, infinite, finite, kind, withSign, value}
@@ -50,7 +49,7 @@ stands-rest f s p u w r q a h z =
     }
 
 rest-is : (f : Format) (s : Bool) (m k n : ℕ) → m < inf f → NearestTo (units f m) (units f k) n → Rest f s (units f m) (n * units f k) (rest f s (units f m) (n * units f k))
-rest-is f s m k n l a = go (ltb u w) refl
+rest-is f s m k n l a = order (suc u) w greater less
   where
     u : ℕ
     u = units f m
@@ -61,13 +60,15 @@ rest-is f s m k n l a = go (ltb u w) refl
     stands : (p : Bool) (r : ℕ) → r ≡ distance u w → Stands f p r (signed f p (exactly f r))
     stands p r e = difference-stands f p m k n r l e (omega (arith, nearest-within u (units f k) n a)) (omega (arith, a .half))
 
-    go : (b : Bool) → ltb u w ≡ b → Rest f s u w (cond b (signed f (not s) (exactly f (w - u))) (signed f s (exactly f (u - w))))
-    go true e =
-        let h : u < w = ltb-true u w e in
-        stands-rest f s (not s) u w (w - u) (signed f (not s) (exactly f (w - u))) (stands (not s) (w - u) (omega arith)) (rw (unlike-not s) (omega arith)) (λ z. absurd (omega arith))
-    go false e =
-        let h : w ≤ u = ltb-false u w e in
-        stands-rest f s s u w (u - w) (signed f s (exactly f (u - w))) (stands s (u - w) (omega arith)) (rw (unlike-self s) (omega arith)) (λ z. refl)
+    greater : u < w → Rest f s u w (rest f s u w)
+    greater h =
+        rw (lt-ltb u w h)
+        (stands-rest f s (not s) u w (w - u) (signed f (not s) (exactly f (w - u))) (stands (not s) (w - u) (omega arith)) (rw (unlike-not s) (omega arith)) (λ z. absurd (omega arith)))
+
+    less : w < suc u → Rest f s u w (rest f s u w)
+    less h =
+        rw (le-ltb u w (omega arith))
+        (stands-rest f s s u w (u - w) (signed f s (exactly f (u - w))) (stands s (u - w) (omega arith)) (rw (unlike-self s) (omega arith)) (λ z. refl))
 
 -- ---- remquo
 remquo-finite : (f : Format) (x y u v : ℕ) → kind f x ≡ finite u → kind f y ≡ finite (suc v) → remquoOf f x y ≡ rest f (minus f x) u (whole even u (suc v) * suc v)
@@ -163,7 +164,7 @@ pub record RemquoRows (f : Format) : Type 0 where
   pub below-half-y : (x y u v : ℕ) → Pattern f x → kind f x ≡ finite u → kind f y ≡ finite (suc v) → 2 * u ≤ suc v → AnswerIs f x y x (pos 0)
   pub zero-x : (x y v : ℕ) → Pattern f x → kind f x ≡ finite 0 → kind f y ≡ finite (suc v) → AnswerIs f x y x (pos 0)
   pub zero-left : (x y u v : ℕ) → kind f x ≡ finite u → kind f y ≡ finite (suc v) → magnitude f (remquoOf f x y) ≡ 0 → minus f (remquoOf f x y) ≡ minus f x
-  pub zero-quotient : (x y u v : ℕ) → kind f x ≡ finite u → kind f y ≡ finite (suc v) → whole even u (suc v) % 2 ^ 31 ≡ 0 → quotientOf f x y ≡ pos 0
+  pub zero-quotient : (x y u v n : ℕ) → kind f x ≡ finite u → kind f y ≡ finite (suc v) → NearestTo u (suc v) n → n % 2 ^ 31 ≡ 0 → quotientOf f x y ≡ pos 0
 
 below-left : (f : Format) (x y u v : ℕ) → Pattern f x → kind f x ≡ finite u → kind f y ≡ finite (suc v) → 2 * u ≤ suc v → NearestLeft f x y x (pos 0)
 below-left f x y u v p e k l =
@@ -183,6 +184,13 @@ remquo-below : (f : Format) (x y u v : ℕ) → Pattern f x → kind f x ≡ fin
 remquo-below f x y u v p e k l =
     remquo-only f x y (remquoOf f x y) x (quotientOf f x y) (pos 0) (omega (arith, finite-is f y (suc v) k .counts)) (remquo-is f x y u v e k) (below-left f x y u v p e k l)
 
+-- a quotient of magnitude 0 is 0, whatever the signs
+zero-quotient-is : (f : Format) (x y u v n : ℕ) → kind f x ≡ finite u → kind f y ≡ finite (suc v) → NearestTo u (suc v) n → n % 2 ^ 31 ≡ 0 → quotientOf f x y ≡ pos 0
+zero-quotient-is f x y u v n e k a z =
+    let s = unlike (minus f x) (minus f y) in
+    let w = nearest-whole-unique u (suc v) (whole even u (suc v)) n (omega arith) (whole-even-nearest u (suc v) (omega arith)) a in
+    quotient-finite f x y u v e k ∙ ap (λ m. withSign s (m % 2 ^ 31)) w ∙ ap (withSign s) z ∙ signed-zero s
+
 pub remquo-rows : (f : Format) → RemquoRows f
 unfolding remquoOf quotientOf divide
 remquo-rows f =
@@ -195,5 +203,5 @@ remquo-rows f =
       below-half-y = remquo-below f;
       zero-x = λ x y v p e k. remquo-below f x y 0 v p e k (omega arith);
       zero-left = λ x y u v e k z. remquo-is f x y u v e k .zero-sign z;
-      zero-quotient = λ x y u v e k z. quotient-finite f x y u v e k ∙ ap (withSign (unlike (minus f x) (minus f y))) z ∙ signed-zero (unlike (minus f x) (minus f y));
+      zero-quotient = zero-quotient-is f;
     }

@@ -157,6 +157,3 @@ module _ (f : Format) (g : Fair f) (t : Ties) (x : Exact) (s : Sound x) where
           (near-under x s (units f m) (units f (suc m)) (units-rise f m) (r .near (omega arith) (suc m) l))
           (λ o. r .tie (omega arith) (suc m) l (omega arith) (as-near x s (units f (suc m)) (units f m) (λ q. absurd (omega (arith, units-rise f m))) (λ q. over-down x (omega arith) o))))
           (λ l. omega (arith, r .overflow .1 (top-over (suc m) (both-ways (suc m) (inf f) (h .0) (omega arith)) h)))
-
-  pub nearest-unique : (i j : ℕ) → Nearest f t x i → Nearest f t x j → i ≡ j
-  nearest-unique i j p q = sym (nearest-rounded i p) ∙ nearest-rounded j q

@@ -8,14 +8,14 @@ use lib.Pow.{pow-mono, pow-lt}
 use lib.IntN.{ℤ, pos, negsuc, _*ℤ_}
 use Rattle.algebra.proofs.Products.{order, times-le}
 use Rattle.ieee.specs.Format.{Format, Fair, inf, units, canonical}
-use Rattle.ieee.specs.Pattern.{Pattern, minus, signed, withSign, value, nan, infinite, finite, kind}
+use Rattle.ieee.specs.Pattern.{Pattern, minus, signed, withSign, nan, infinite, finite, kind}
 use Rattle.ieee.specs.Exact.{dyadic, ratio}
 use Rattle.ieee.specs.Round.{Way, even, away, shorter, longer, Attribute, ties-to-even, wayOf, rounded, answer}
 use Rattle.ieee.specs.Rule.{to-even, Once, RuleIn}
 use Rattle.ieee.specs.Scalbn.{scaled, reach, clamp, scalbnBy, scalbnIn, scalbnOf, exactScalbn}
 use Rattle.ieee.proofs.Units.{units-mono, units-lt, units-inf}
 use Rattle.ieee.proofs.Alike.{Beside, Places, same-side}
-use Rattle.ieee.proofs.Patterns.{finite-is, zero-is, value-is}
+use Rattle.ieee.proofs.Patterns.{finite-is, zero-is, value-finite}
 use Rattle.ieee.proofs.Signs.{signed-times, signed-zero}
 use Rattle.ieee.proofs.Exacts.{answer-zero, sign-own, answer-of}
 use Rattle.ieee.proofs.Attributes.{answer-met}
@@ -86,12 +86,8 @@ module _ (f : Format) (g : Fair f) where
       ∙ sym (answer-of f a s s u (suc n) (sign-own s u (suc n)))
 
   scaled-exact : (x u : ℕ) (n : ℤ) → kind f x ≡ finite u → scaled (minus f x) u n ≡ exactScalbn f x n
-  scaled-exact x u (pos n) h =
-      let e : value f x ≡ withSign (minus f x) u = value-is f x ∙ ap (withSign (minus f x)) (finite-is f x u h .counts) in
-      ap (λ c. dyadic c 0) (sym (signed-times (minus f x) u (2 ^ n)) ∙ ap (λ c. c *ℤ pos (2 ^ n)) (sym e))
-  scaled-exact x u (negsuc n) h =
-      let e : value f x ≡ withSign (minus f x) u = value-is f x ∙ ap (withSign (minus f x)) (finite-is f x u h .counts) in
-      ap (λ c. dyadic c (suc n)) (sym e)
+  scaled-exact x u (pos n) h = ap (λ c. dyadic c 0) (sym (signed-times (minus f x) u (2 ^ n)) ∙ ap (λ c. c *ℤ pos (2 ^ n)) (sym (value-finite f x u h)))
+  scaled-exact x u (negsuc n) h = ap (λ c. dyadic c (suc n)) (sym (value-finite f x u h))
 
   -- the answer is the exact value, rounded, for every n
   pub scalbn-answer : (a : Attribute) (x u : ℕ) (n : ℤ) → kind f x ≡ finite u → scalbnIn f a x n ≡ answer f a (minus f x) (exactScalbn f x n)

@@ -1,5 +1,5 @@
 -- How an exact magnitude compares with whole numbers. Assumes nothing.
-use Prim.Native.Nat.{ℕ, zero, _*_, _≤_, _<_}
+use Prim.Native.Nat.{ℕ, _*_, _≤_, _<_}
 use native.Mathlib.Nat.{mul-le-mul}
 use native.Mathlib.Omega.{arith}
 use Rattle.algebra.proofs.Products.{times-le, cross}

@@ -4,14 +4,14 @@ use mathlib.Core.Path.{_≡_, refl, sym, ap, _∙_, subst}
 use mathlib.Core.Bool.{Bool, true, false}
 use native.Mathlib.Omega.{arith}
 use lib.IntN.{natAbs}
-use Rattle.ieee.specs.Format.{Format, Fair, low, units, canonical}
-use Rattle.ieee.specs.Pattern.{Pattern, minus, magnitude, Kind, nan, infinite, finite, kind}
+use Rattle.ieee.specs.Format.{Format, Fair, low, canonical}
+use Rattle.ieee.specs.Pattern.{Pattern, minus, Kind, nan, infinite, finite, kind}
 use Rattle.ieee.specs.Exact.{surd}
 use Rattle.ieee.specs.Round.{Attribute, ties-to-even, answer}
 use Rattle.ieee.specs.Rule.{to-even, Once, RuleIn}
 use Rattle.ieee.specs.Status.{OK, INVALID}
 use Rattle.ieee.specs.Sqrt.{rootOf, exactSqrt, sqrtBy, sqrtIn, sqrtOf, sqrtStatusBy, sqrtStatus}
-use Rattle.ieee.proofs.Patterns.{finite-is, zero-is, value-is}
+use Rattle.ieee.proofs.Patterns.{zero-is, value-finite}
 use Rattle.ieee.proofs.Signs.{abs-signed}
 use Rattle.ieee.proofs.Exacts.{answer-root-zero}
 use Rattle.ieee.proofs.Attributes.{answer-met}
@@ -26,7 +26,7 @@ module _ (f : Format) where
   status-by x e h = λ i. sqrtStatusBy (e i) (h i)
 
   root-exact : (x u : ℕ) → kind f x ≡ finite u → rootOf f u ≡ exactSqrt f x
-  root-exact x u h = ap (λ n. surd (n * 2 ^ low f)) (sym (ap natAbs (value-is f x) ∙ abs-signed (minus f x) (units f (magnitude f x)) ∙ finite-is f x u h .counts))
+  root-exact x u h = ap (λ n. surd (n * 2 ^ low f)) (sym (ap natAbs (value-finite f x u h) ∙ abs-signed (minus f x) u))
 
   sqrt-root : (a : Attribute) (x u : ℕ) → kind f x ≡ finite u → (minus f x ≡ true → u ≡ 0) → sqrtIn f a x ≡ answer f a (minus f x) (rootOf f u)
   unfolding sqrtBy

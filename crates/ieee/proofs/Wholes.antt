@@ -1,10 +1,10 @@
 -- trunc and floor are exact: each gives the one whole number of ones that its rule names. Assumes nothing.
-use Prim.Native.Nat.{ℕ, zero, suc, _+_, _*_, _/_, _%_, _^_, _≤_, _<_}
+use Prim.Native.Nat.{ℕ, suc, _+_, _*_, _/_, _%_, _^_, _≤_, _<_}
 use mathlib.Core.Path.{_≡_, refl, sym, ap, _∙_}
-use mathlib.Core.Bool.{Bool, true, false}
+use mathlib.Core.Bool.{Bool, true, false, not, _&&_, cond}
 use native.Mathlib.Nat.{one-mul}
 use native.Mathlib.Omega.{arith}
-use lib.Dec.{lt→ltb, le→leb}
+use lib.Dec.{eqb, lt→ltb, le→leb}
 use lib.Pow.{pow-pos}
 use lib.IntN.{ℤ, pos, negsuc, negℤ, _+ℤ_, _*ℤ_}
 use lib.Signed.{_≤ℤ_, _<ℤ_}
@@ -18,7 +18,7 @@ use Rattle.ieee.specs.Round.{longer, Attribute, toward-zero, toward-nega
 use Rattle.ieee.specs.Whole.{whole, wholeIn, truncOf, floorOf, wholeStatus, truncStatus, floorStatus}
 use Rattle.ieee.specs.Status.{OK, INEXACT}
 use Rattle.ieee.proofs.Units.{units-inj}
-use Rattle.ieee.proofs.Decide.{split, eqb-reads}
+use Rattle.ieee.proofs.Decide.{Reads, split, is-true, is-false, eqb-reads, and-reads, not-reads}
 use Rattle.ieee.proofs.Patterns.{same-pattern, finite-is, value-is}
 use Rattle.ieee.proofs.Signs.{signed-times, value-tells}
 use Rattle.ieee.proofs.WholeParts.{sent-value, wholeIn-sent, wholeIn-none, nan-stays, infinity-stays, zero-stays}
@@ -147,15 +147,23 @@ module _ (f : Format) (a : Attribute) where
   status-same : (x : ℕ) → wholeIn f a x ≡ x → wholeStatus f x (wholeIn f a x) ≡ OK
   status-same x e = rw (eq-eqb (wholeIn f a x) x e)
 
+  -- the status by its test: x was changed, and its fraction field is not zero
+  inexact : Bool → ℕ
+  inexact b = cond b INEXACT OK
+
+  inexact-reads : (x : ℕ) → Reads ((wholeIn f a x ≡ x → ⊥) × (x % 2 ^ f .frac ≡ 0 → ⊥)) (not (eqb (wholeIn f a x) x) && not (eqb (x % 2 ^ f .frac) 0))
+  inexact-reads x = and-reads (not-reads (eqb-reads (wholeIn f a x) x)) (not-reads (eqb-reads (x % 2 ^ f .frac) 0))
+
   wholeIn-rows : WholeRows f (wholeIn f a) (λ x. wholeStatus f x (wholeIn f a x))
+  unfolding inexact
   wholeIn-rows =
       record {
         of-nan = λ x h. let e = nan-stays f a x h in (e, status-same x e);
         of-infinity = λ x h. let e = infinity-stays f a x h in (e, status-same x e);
         of-zero = λ x p h. let e = zero-stays f a x p h in (e, status-same x e);
         same = status-same;
-        changed = λ x n e. rw (ne-eqb (wholeIn f a x) x n, eq-eqb (x % 2 ^ f .frac) 0 e);
-        changed-fraction = λ x n m. rw (ne-eqb (wholeIn f a x) x n, ne-eqb (x % 2 ^ f .frac) 0 m);
+        changed = λ x n e. ap inexact (is-false (inexact-reads x) (λ h. h .1 e));
+        changed-fraction = λ x n m. ap inexact (is-true (inexact-reads x) (n, m));
       }
 
 pub trunc-rows : (f : Format) → WholeRows f (truncOf f) (truncStatus f)

@@ -1,5 +1,5 @@
 -- Scaling, x times 2 ^ n: IEEE 754-2019, scaleB, clause 5.3.3; ISO C, scalbn, F.10.3.19. Assumes nothing.
-use Prim.Native.Nat.{ℕ, zero, suc, _+_, _*_, _^_, min}
+use Prim.Native.Nat.{ℕ, suc, _+_, _*_, _^_, min}
 use mathlib.Core.Bool.{Bool}
 use lib.IntN.{ℤ, pos, negsuc, _*ℤ_}
 use Rattle.ieee.specs.Format.{Format, canonical}

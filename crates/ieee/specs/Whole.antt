@@ -1,9 +1,9 @@
 -- Whole numbers: trunc and floor; IEEE 754-2019, clause 5.9; ISO C, F.10.6. Assumes nothing.
-use Prim.Native.Nat.{ℕ, zero, _+_, _*_, _/_, _%_, _^_}
+use Prim.Native.Nat.{ℕ, _+_, _*_, _/_, _%_, _^_}
 use mathlib.Core.Bool.{not, _&&_, _||_, cond}
 use lib.Dec.{leb, ltb, eqb}
 use Rattle.ieee.specs.Format.{Format, low}
-use Rattle.ieee.specs.Pattern.{Kind, nan, infinite, finite, kind, minus, magnitude, signed}
+use Rattle.ieee.specs.Pattern.{Kind, nan, infinite, finite, kind, minus, signed}
 use Rattle.ieee.specs.Round.{Way, even, away, shorter, longer, Attribute, toward-zero, toward-negative, wayOf, rounded, exactly}
 use Rattle.ieee.specs.Status.{OK, INEXACT}
 
