@@ -3,3 +3,4 @@ pub mod Quotients
 pub mod Powers
 pub mod Roots
 pub mod Integers
+pub mod Leading

@@ -46,7 +46,7 @@ module _ (f : Format) (s : Bool) (v : Value) where
     as-magnitude d = by-sign d (signOf s v) (λ i. subst AsMagnitude (sym i) own-direction) (λ i. subst AsMagnitude (sym i) other-direction)
 
 module _ (f : Format) (g : Fair f) where
-  answer-pattern : (a : Attribute) (s : Bool) (v : Value) → Pattern f (answer f a s v)
+  pub answer-pattern : (a : Attribute) (s : Bool) (v : Value) → Pattern f (answer f a s v)
   unfolding answer
   answer-pattern a s v =
       let w = wayOf a (signOf s v) in

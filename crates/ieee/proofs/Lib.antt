@@ -4,6 +4,7 @@ pub mod Search
 pub mod Sides
 pub mod Past
 pub mod Patterns
+pub mod Fields
 pub mod Nearness
 pub mod Signs
 pub mod Fixed

@@ -19,14 +19,14 @@ pub record Between (f : Format) (x : Exact) (m : ℕ) : Type 0 where
   pub high : Over x (2 * units f (suc m)) → ⊥
 
 -- it has passed the places below
-reached : (f : Format) (w : Way) (x : Exact) → Sound x → (j : ℕ) → suc j < inf f → Over x (2 * units f (suc j)) → Passes f w x j
+pub reached : (f : Format) (w : Way) (x : Exact) → Sound x → (j : ℕ) → suc j < inf f → Over x (2 * units f (suc j)) → Passes f w x j
 reached f even x s j l o = (over-down x (omega (arith, units-rise f j)) o, λ u. absurd (apart x s (omega (arith, units-rise f j)) u o))
 reached f away x s j l o = over-down x (omega (arith, units-rise f j)) o
 reached f shorter x s j l o = (o, omega arith)
 reached f longer x s j l o = λ u. apart x s (omega (arith, units-rise f j)) u o
 
 -- and not those above
-not-yet : (f : Format) (w : Way) (x : Exact) (m : ℕ) → (Over x (2 * units f m) → ⊥) → Passes f w x m → ⊥
+pub not-yet : (f : Format) (w : Way) (x : Exact) (m : ℕ) → (Over x (2 * units f m) → ⊥) → Passes f w x m → ⊥
 not-yet f even x m n p = n (over-down x (omega (arith, units-rise f m)) (p .0))
 not-yet f away x m n p = n (over-down x (omega (arith, units-rise f m)) p)
 not-yet f shorter x m n p = n (over-down x (omega (arith, units-rise f m)) (p .0))

@@ -40,7 +40,7 @@ whole-stays away n d p e = rw (lt-leb d (2 * (n % d)) (omega arith)) (omega arit
 whole-stays shorter n d p e = refl
 whole-stays longer n d p e = rw (eq-eqb (n % d) 0 e) (omega arith)
 
-whole-multiple : (w : Way) (k d : ℕ) → 0 < d → whole w (k * d) d ≡ k
+pub whole-multiple : (w : Way) (k d : ℕ) → 0 < d → whole w (k * d) d ≡ k
 whole-multiple w k d p = let (q, r) = div-is (k * d) d k 0 p (omega arith) in whole-stays w (k * d) d p r ∙ q
 
 whole-small : (w : Way) (n d h : ℕ) → 0 < d → n < h * d → whole w n d ≤ h
@@ -107,7 +107,7 @@ sent-value f w x r s = value-is f r ∙ (λ i. withSign (s .sign i) (s .counts i
 
 -- ---- the operations, whatever the attribute
 module _ (f : Format) (a : Attribute) where
-  wholeIn-finite : (x u : ℕ) → kind f x ≡ finite u → wholeIn f a x ≡ signed f (minus f x) (exactly f (whole (wayOf a (minus f x)) u (2 ^ low f) * 2 ^ low f))
+  pub wholeIn-finite : (x u : ℕ) → kind f x ≡ finite u → wholeIn f a x ≡ signed f (minus f x) (exactly f (whole (wayOf a (minus f x)) u (2 ^ low f) * 2 ^ low f))
   unfolding wholeIn wholeBy
   wholeIn-finite x u h = rw h
 

@@ -76,7 +76,7 @@ timesZ : (a : ℤ) (d : ℕ) → (up (a *ℤ pos d) ≡ up a * d) × (dn (a *ℤ
 timesZ (pos n) d = (refl, omega arith)
 timesZ (negsuc n) d = let (p, q) = negZ (pos (suc n * d)) in (p ∙ omega arith, q)
 
-longer-sides : (n d : ℕ) → 0 < d → (n ≤ whole longer n d * d) × (whole longer n d * d < n + d)
+pub longer-sides : (n d : ℕ) → 0 < d → (n ≤ whole longer n d * d) × (whole longer n d * d < n + d)
 longer-sides n d p =
     let m = div-mod n d p in
     split (eqb-reads (n % d) 0)
@@ -181,7 +181,7 @@ floor-above-zero f x u h l s =
     let e = ap (λ t. whole (wayOf toward-negative t) u (2 ^ low f)) s ∙ div-is u (2 ^ low f) 0 u l (omega arith) .0 in
     wholeIn-none f toward-negative x u h e ∙ ap (λ t. signed f t 0) s
 
-longer-one : (n d : ℕ) → 0 < n → n < d → whole longer n d ≡ 1
+pub longer-one : (n d : ℕ) → 0 < n → n < d → whole longer n d ≡ 1
 longer-one n d p l =
     let s = longer-sides n d (omega arith) in
     let a = mul-lt-cancel 0 (whole longer n d) d (omega arith) in

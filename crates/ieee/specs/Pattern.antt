@@ -1,5 +1,5 @@
 -- What a pattern stands for: a sign, and a NaN, an infinity or a whole number of smallest units. Assumes nothing.
-use Prim.Native.Nat.{ℕ, _+_, _*_, _%_, _<_}
+use Prim.Native.Nat.{ℕ, _+_, _*_, _/_, _%_, _^_, _<_}
 use mathlib.Core.Bool.{Bool, not, Bool·beq, cond}
 use lib.Dec.{leb, ltb, eqb}
 use lib.IntN.{ℤ, pos, negℤ}
@@ -14,6 +14,13 @@ minus f x = leb (top f) x
 
 abbrev pub magnitude : Format → ℕ → ℕ
 magnitude f x = x % top f
+
+-- the exponent field, and the fraction
+abbrev pub field : Format → ℕ → ℕ
+field f x = x / 2 ^ f .frac % 2 ^ f .expo
+
+abbrev pub fraction : Format → ℕ → ℕ
+fraction f x = x % 2 ^ f .frac
 
 -- a sign and a magnitude, as a pattern
 abbrev pub signed : Format → Bool → ℕ → ℕ

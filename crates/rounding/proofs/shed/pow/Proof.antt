@@ -1,0 +1,14 @@
+use native.Mathlib.Omega.{arith}
+use borrow.Author.Needs.{needs}
+use lib.Pow.{pow-lt}
+use Rattle.rounding.proofs.shed.pow.Statement.{statement}
+use Rattle.rounding.proofs.shed.pow.Tie as tie
+
+shl-result : tie.Need-shl-result
+shl-result c = search needs
+
+returns : tie.Need-returns
+returns c = omega (arith, pow-lt (c .pre))
+
+pub pow-spec : {M : Type 1} → statement M
+pow-spec = tie.close (tie.spec shl-result returns)

@@ -1,0 +1,5 @@
+pub mod Width
+pub mod Decode
+pub mod Cut
+pub mod Place
+pub mod Mark

@@ -1,0 +1,43 @@
+// The rounding step: a sign, a significand and an exponent to the nearest pattern.
+ghost use mathlib.Core.Path.{_≡_};
+ghost use Prim.Native.Nat.{_+_, _≤_, _<_, _^_};
+ghost use lib.Signed.{mag};
+ghost use Rattle.ieee.specs.Format.{b64, b32};
+ghost use Rattle.ieee.specs.Pattern.{signed};
+ghost use Rattle.ieee.specs.Round.{answer, ties-to-even};
+ghost use Rattle.ieee.specs.Scalbn.{scaled};
+ghost use Rattle.rounding.specs.Width.{format, Fits};
+use crate::choice::nearest_even;
+use crate::cut::cut;
+use crate::shed::pow;
+
+// A magnitude with its sign, as a pattern.
+pub fn with_sign(frac: u32, expo: u32, neg: bool, m: u64) -> u64
+    requires { ⌜ Fits frac expo × (m < 2 ^ (frac + expo)) ⌝ }
+    ensures { λ r. ⌜ r ≡ signed (format frac expo) neg m ⌝ }
+{
+    if neg { pow(frac + expo) + m } else { m }
+}
+
+// sig times 2^exp smallest units of a format, with a sign, rounded once.
+pub fn round(frac: u32, expo: u32, neg: bool, sig: u64, exp: i32) -> u64
+    requires { ⌜ Fits frac expo × (mag exp ≤ 2 ^ 20) ⌝ }
+    ensures { λ r. ⌜ r ≡ answer (format frac expo) ties-to-even neg (scaled neg sig exp) ⌝ }
+{
+    let c = cut(frac, expo, sig, exp);
+    with_sign(frac, expo, neg, nearest_even(c.below, c.place))
+}
+
+pub fn round64(neg: bool, sig: u64, exp: i32) -> u64
+    requires { ⌜ mag exp ≤ 2 ^ 20 ⌝ }
+    ensures { λ r. ⌜ r ≡ answer b64 ties-to-even neg (scaled neg sig exp) ⌝ }
+{
+    round(52, 11, neg, sig, exp)
+}
+
+pub fn round32(neg: bool, sig: u64, exp: i32) -> u32
+    requires { ⌜ mag exp ≤ 2 ^ 20 ⌝ }
+    ensures { λ r. ⌜ r ≡ answer b32 ties-to-even neg (scaled neg sig exp) ⌝ }
+{
+    round(23, 8, neg, sig, exp) as u32
+}

@@ -1,0 +1,3 @@
+// Scaling by a power of two.
+pub mod exponent;
+pub mod scalbn;

@@ -1,0 +1,4 @@
+mod Scaled
+mod Cuts
+mod Method
+mod Statuses

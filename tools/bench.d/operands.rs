@@ -1,0 +1,91 @@
+//! The sets of operands: how one operand of each set is drawn, at every width.
+//!
+//! The line before each `pub fn` says what the set holds; `tools/bench --list` and the report show it.
+
+use crate::random::Random;
+
+/// A bit pattern of one of the widths.
+pub trait Word: Copy {
+    const WIDTH: u32;
+    const FRACTION_BITS: u32;
+    const BIAS: i32 = (1 << (Self::WIDTH - Self::FRACTION_BITS - 2)) - 1;
+    /// The exponent of the smallest normal number; the greatest is the bias.
+    const SMALLEST: i32 = 1 - Self::BIAS;
+    fn of(bits: u64) -> Self;
+}
+impl Word for u64 {
+    const WIDTH: u32 = 64;
+    const FRACTION_BITS: u32 = 52;
+    fn of(bits: u64) -> u64 {
+        bits
+    }
+}
+impl Word for u32 {
+    const WIDTH: u32 = 32;
+    const FRACTION_BITS: u32 = 23;
+    fn of(bits: u64) -> u32 {
+        bits as u32
+    }
+}
+
+/// One, two or three patterns, for the operations that take so many.
+pub trait Patterns {
+    fn draw(random: &mut Random) -> Self;
+}
+impl<W: Word> Patterns for W {
+    fn draw(random: &mut Random) -> W {
+        W::of(random.word() >> (64 - W::WIDTH))
+    }
+}
+impl<W: Word> Patterns for (W,) {
+    fn draw(random: &mut Random) -> (W,) {
+        (W::draw(random),)
+    }
+}
+impl<W: Word> Patterns for (W, W) {
+    fn draw(random: &mut Random) -> (W, W) {
+        (W::draw(random), W::draw(random))
+    }
+}
+impl<W: Word> Patterns for (W, W, W) {
+    fn draw(random: &mut Random) -> (W, W, W) {
+        (W::draw(random), W::draw(random), W::draw(random))
+    }
+}
+
+/// A normal number of this exponent, of either sign, with any fraction.
+fn number<W: Word>(random: &mut Random, exponent: i32) -> W {
+    let sign = (random.coin() as u64) << (W::WIDTH - 1);
+    let field = ((exponent + W::BIAS) as u64) << W::FRACTION_BITS;
+    W::of(sign | field | random.below(1 << W::FRACTION_BITS))
+}
+
+/// any pattern, each alike often
+pub fn patterns<T: Patterns>(random: &mut Random) -> T {
+    T::draw(random)
+}
+
+/// numbers of either sign, exponents -2 to 60 (-2 to 31 at width 32) alike often: most have a whole part and a fraction
+pub fn fractions<W: Word>(random: &mut Random) -> (W,) {
+    let exponent = random.between(-2, W::FRACTION_BITS as i32 + 8);
+    (number(random, exponent),)
+}
+
+/// normal numbers, n from -20 to 20, normal results
+pub fn normal<W: Word>(random: &mut Random) -> (W, i32) {
+    let n = random.between(-20, 20);
+    let exponent = random.between(W::SMALLEST.max(W::SMALLEST - n), W::BIAS.min(W::BIAS - n));
+    (number(random, exponent), n)
+}
+
+/// any pattern, n from -2100 to 2100
+pub fn wide<W: Word>(random: &mut Random) -> (W, i32) {
+    (W::draw(random), random.between(-2100, 2100))
+}
+
+/// normal numbers of any size, and n such that the result is subnormal and not zero
+pub fn subnormal<W: Word>(random: &mut Random) -> (W, i32) {
+    let exponent = random.between(W::SMALLEST, W::BIAS);
+    let target = random.between(W::SMALLEST - W::FRACTION_BITS as i32, W::SMALLEST - 1);
+    (number(random, exponent), target - exponent)
+}

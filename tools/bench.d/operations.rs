@@ -1,0 +1,116 @@
+//! The operations that are measured, a row for each, and what a row is made into.
+
+// An answer of one word is written as that word in parentheses, to be said like an answer of two.
+#![allow(unused_parens)]
+
+use crate::operands;
+use crate::run::Run;
+use oracle::math::generic;
+use oracle::math::support::{FpResult, Status};
+
+pub struct Operation {
+    pub name: &'static str,
+    pub measure: fn(&mut Run),
+}
+
+macro_rules! types {
+    (($($x:ident: $type:ty),+)) => { ($($type,)+) };
+}
+macro_rules! names {
+    (($($x:ident: $type:ty),+)) => { ($($x,)+) };
+}
+macro_rules! call {
+    ($function:expr, ($($x:ident: $type:ty),+), $stir:expr) => { $function($($x ^ $stir as $type),+) };
+}
+macro_rules! request {
+    (($($x:ident: $type:ty),+)) => { [$(word(stringify!($x), $x)),+].join(" ") };
+}
+
+/// At the start of a function: the first operand stays where it came in, and the compiler knows no more what is in it.
+/// No instruction is made of this. Without it the compiler, though it may not put the function into the loop, would use
+/// what it finds in the function there, which it cannot do with a function of the archive.
+macro_rules! veil {
+    (($x:ident: $type:ty $(, $rest:ident: $other:ty)*)) => {
+        let mut $x = $x;
+        #[cfg(target_arch = "aarch64")]
+        unsafe { std::arch::asm!("", inout("x0") $x, options(nomem, nostack, preserves_flags)) };
+        #[cfg(target_arch = "x86_64")]
+        unsafe { std::arch::asm!("", inout("rdi") $x, options(nomem, nostack, preserves_flags)) };
+    };
+}
+
+/// Both sides are direct calls of functions of the same shape. Through pointers, a call's time would change by half with
+/// the place where the program happens to lie in memory.
+macro_rules! operations {
+    ($($name:ident $operands:tt [$($export:ident: $answer:ty),+] { $theirs:expr } [$($set:ident),+];)+) => {
+        pub const OPERATIONS: &[Operation] = &[$(Operation {
+            name: stringify!($name),
+            measure: |run| {
+                extern "C" { $(fn $export $operands -> $answer;)+ }
+                #[inline(never)]
+                fn theirs $operands -> ($($answer),+) {
+                    veil!($operands);
+                    $theirs
+                }
+                // The exports are functions of numbers alone, with no condition on them.
+                let our_side = |names!($operands): types!($operands), stir: u64| ($(unsafe { call!($export, $operands, stir) }),+);
+                let their_side = |names!($operands): types!($operands), stir: u64| call!(theirs, $operands, stir);
+                let request = |names!($operands): types!($operands)| request!($operands);
+                $(run.measure(stringify!($set), operands::$set, request, our_side, their_side);)+
+            },
+        }),+];
+    };
+}
+
+// Where the crate answers two words at once and the archive has an export for each, all are called on our side.
+// Empty calls come first: two functions that do nothing, called as the two sides are. They show what a call costs
+// by itself, and how near to 1 the ratio of two equal things comes.
+// tools/bench reads the names of this table and the sets at the end of each row.
+operations! {
+//  name           operands         ours: exports and their answers           the crate's, on patterns                                     sets
+    empty64        (x: u64)         [identity64: u64]                         { x }                                                        [patterns];
+    empty32        (x: u32)         [identity32: u32]                         { x }                                                        [patterns];
+    trunc64        (x: u64)         [pk_trunc64: u64]                         { generic::trunc_status(f64::from_bits(x)).val.to_bits() }   [patterns, fractions];
+    trunc32        (x: u32)         [pk_trunc32: u32]                         { generic::trunc_status(f32::from_bits(x)).val.to_bits() }   [patterns, fractions];
+    trunc64_status (x: u64)         [pk_trunc64: u64, pk_trunc64_status: u32] { both64(generic::trunc_status(f64::from_bits(x))) }         [patterns, fractions];
+    trunc32_status (x: u32)         [pk_trunc32: u32, pk_trunc32_status: u32] { both32(generic::trunc_status(f32::from_bits(x))) }         [patterns, fractions];
+    floor64        (x: u64)         [pk_floor64: u64]                         { generic::floor_status(f64::from_bits(x)).val.to_bits() }   [patterns, fractions];
+    floor32        (x: u32)         [pk_floor32: u32]                         { generic::floor_status(f32::from_bits(x)).val.to_bits() }   [patterns, fractions];
+    floor64_status (x: u64)         [pk_floor64: u64, pk_floor64_status: u32] { both64(generic::floor_status(f64::from_bits(x))) }         [patterns, fractions];
+    floor32_status (x: u32)         [pk_floor32: u32, pk_floor32_status: u32] { both32(generic::floor_status(f32::from_bits(x))) }         [patterns, fractions];
+    scalbn64       (x: u64, n: i32) [pk_scalbn64: u64]                        { generic::scalbn(f64::from_bits(x), n).to_bits() }          [normal, wide, subnormal];
+    scalbn32       (x: u32, n: i32) [pk_scalbn32: u32]                        { generic::scalbn(f32::from_bits(x), n).to_bits() }          [normal, wide, subnormal];
+}
+
+#[no_mangle]
+#[inline(never)]
+extern "C" fn identity64(x: u64) -> u64 {
+    veil!((x: u64));
+    x
+}
+#[no_mangle]
+#[inline(never)]
+extern "C" fn identity32(x: u32) -> u32 {
+    veil!((x: u32));
+    x
+}
+
+fn both64(result: FpResult<f64>) -> (u64, u32) {
+    (result.val.to_bits(), number(result.status))
+}
+fn both32(result: FpResult<f32>) -> (u32, u32) {
+    (result.val.to_bits(), number(result.status))
+}
+
+/// The status's own byte. It is private in the crate, and asking for it by comparisons would be charged to the crate.
+fn number(status: Status) -> u32 {
+    unsafe { std::mem::transmute::<Status, u8>(status) as u32 }
+}
+
+/// An operand as docs/LINES.md writes it: counts in decimal, patterns and plain words in hexadecimal.
+fn word<W: std::fmt::Display + std::fmt::LowerHex>(name: &str, word: W) -> String {
+    match name {
+        "n" | "shift" => format!("{word}"),
+        _ => format!("{word:0digits$x}", digits = 2 * std::mem::size_of::<W>()),
+    }
+}

@@ -1,0 +1,64 @@
+//! One run: what is asked for, and the rows that come of it.
+
+use crate::answers::Answer;
+use crate::measure::{turns, Calls, Figures, COUNT};
+use crate::random::Random;
+
+pub struct Row {
+    pub operation: &'static str,
+    pub set: &'static str,
+    pub calls: &'static str,
+    pub ours: Figures,
+    pub theirs: Figures,
+}
+
+pub struct Run {
+    pub seed: u64,
+    pub passes: usize,
+    /// What is asked for, as operation/set.
+    pub chosen: Vec<String>,
+    /// Whether the operands are to be written, and nothing is measured.
+    pub operands_alone: bool,
+    pub operation: &'static str,
+    pub requests: String,
+    pub rows: Vec<Row>,
+    /// Where the two sides do not answer alike.
+    pub differences: Vec<String>,
+}
+
+impl Run {
+    /// One operation on one set, its operands drawn by `draw` and written by `request`.
+    pub fn measure<T: Copy, A: Answer>(
+        &mut self,
+        set: &'static str,
+        draw: fn(&mut Random) -> T,
+        request: fn(T) -> String,
+        ours: impl Fn(T, u64) -> A + Copy,
+        theirs: impl Fn(T, u64) -> A + Copy,
+    ) {
+        if !self.chosen.contains(&format!("{}/{set}", self.operation)) {
+            return;
+        }
+        // A set's operands are the same for every operation that takes it, asked for alone or with others.
+        let mut random = Random::new(self.seed, stream(set));
+        let operands: Vec<T> = (0..COUNT).map(|_| draw(&mut random)).collect();
+        if self.operands_alone {
+            let operation = self.operation.trim_end_matches("_status");
+            self.requests.extend(operands.iter().map(|&operand| format!("{operation} {}\n", request(operand))));
+            return;
+        }
+        let differing = operands.iter().filter(|&&x| !ours(x, 0).same(theirs(x, 0))).count();
+        if differing > 0 && (oracle::api::STATUSES || !self.operation.ends_with("_status")) {
+            self.differences.push(format!("{} on {set}: {differing} of {COUNT}", self.operation));
+        }
+        for (calls, name) in [(Calls::Independent, "independent"), (Calls::Dependent, "dependent")] {
+            let (ours, theirs) = turns(calls, self.passes, &operands, ours, theirs);
+            self.rows.push(Row { operation: self.operation, set, calls: name, ours, theirs });
+        }
+    }
+}
+
+/// Each set has a stream of numbers of its own, made of its name.
+fn stream(set: &str) -> u64 {
+    set.bytes().fold(0, |sum: u64, byte| sum.wrapping_mul(31).wrapping_add(byte as u64))
+}

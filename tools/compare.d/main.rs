@@ -1,0 +1,125 @@
+//! Runs our operations and the crate's on the same operands, in one process, and reports every difference.
+//!
+//! Started by tools/compare, which checks the options that a person gives. The emulator that runs x86-64 programs on Arm
+//! does not bear Rust's own start, so there is no Rust `main`.
+#![cfg_attr(not(test), no_main)]
+#![cfg_attr(test, allow(dead_code))]
+
+mod kinds;
+mod quick;
+mod record;
+mod request;
+mod run;
+mod table;
+
+// The plain program's modules: its exact answers, its boundary cases and the line format.
+#[allow(dead_code)]
+#[path = "../plain/answers.rs"]
+mod answers;
+#[allow(dead_code)]
+#[path = "../plain/big.rs"]
+mod big;
+#[allow(dead_code)]
+#[path = "../plain/cases.rs"]
+mod cases;
+#[allow(dead_code)]
+#[path = "../plain/draws_several.rs"]
+mod draws_several;
+#[allow(dead_code)]
+#[path = "../plain/draws_single.rs"]
+mod draws_single;
+#[allow(dead_code)]
+#[path = "../plain/format.rs"]
+mod format;
+#[allow(dead_code)]
+#[path = "../plain/grids.rs"]
+mod grids;
+#[allow(dead_code)]
+#[path = "../plain/lines.rs"]
+mod lines;
+#[allow(dead_code)]
+#[path = "../plain/operands.rs"]
+mod operands;
+#[allow(dead_code)]
+#[path = "../plain/operations.rs"]
+mod operations;
+#[allow(dead_code)]
+#[path = "../plain/random.rs"]
+mod random;
+#[allow(dead_code)]
+#[path = "../plain/rounding.rs"]
+mod rounding;
+
+use run::{Run, Spoiled};
+
+/// The program's words: a task, then options in pairs, then operations (none: all of them).
+struct Words {
+    task: String,
+    run: Run,
+    count: u64,
+    rows: Option<String>,
+    chosen: Vec<&'static table::Row>,
+}
+
+fn read_words(words: &[String]) -> Result<Words, String> {
+    let (task, mut rest) = words.split_first().ok_or("expected a task")?;
+    let mut read = Words {
+        task: task.clone(),
+        run: Run { seed: 1, on: String::new(), spoiled: Spoiled::Nothing },
+        count: 1,
+        rows: None,
+        chosen: Vec::new(),
+    };
+    while let [option, value, more @ ..] = rest {
+        let number = || value.parse::<u64>().map_err(|_| format!("{option} needs a number"));
+        match option.as_str() {
+            "--seed" => read.run.seed = number()?,
+            "--count" => read.count = number()?,
+            "--on" => read.run.on = value.clone(),
+            "--rows" => read.rows = Some(value.clone()),
+            "--spoil" => read.run.spoiled = Spoiled::read(value)?,
+            _ => break,
+        }
+        rest = more;
+    }
+    for name in rest {
+        read.chosen.push(table::find(name).ok_or_else(|| format!("no operation '{name}'"))?);
+    }
+    if read.chosen.is_empty() {
+        read.chosen.extend(table::ROWS.iter());
+    }
+    Ok(read)
+}
+
+/// The exit status: 0 no difference that is not explained, 1 such a difference or a panic, 2 bad words.
+fn run_words(words: &[String]) -> Result<i32, String> {
+    kinds::check_entries(&kinds::KINDS)?;
+    let words = read_words(words)?;
+    run::keep_panics();
+    let mut tallies = Vec::new();
+    for row in &words.chosen {
+        match words.task.as_str() {
+            "drawn" => tallies.push(words.run.drawn(row, words.count)),
+            "all" => tallies.push(words.run.all_patterns(row)?),
+            "lines" => record::print_lines(row, words.run.seed, words.count),
+            task => return Err(format!("no task '{task}'")),
+        }
+    }
+    if let Some(path) = &words.rows {
+        record::append_rows(path, &words.run, &tallies)?;
+    }
+    Ok(if tallies.iter().all(|tally| tally.is_clean()) { 0 } else { 1 })
+}
+
+#[cfg(not(test))]
+#[no_mangle]
+pub extern "C" fn main() -> i32 {
+    let words: Vec<String> = std::env::args().skip(1).collect();
+    match run_words(&words) {
+        Ok(status) => status,
+        Err(what) => {
+            eprintln!("compare: error: {what}");
+            2
+        }
+    }
+}

@@ -1,0 +1,123 @@
+//! Drawn operands made by shifts and masks alone, so that millions take a moment. Each kind is built on purpose.
+
+use crate::format::Format;
+use crate::random::Random;
+use crate::request::Request;
+
+/// Operands of floor and trunc: numbers about the integers at every exponent, then patterns of all classes.
+pub fn for_whole(format: Format, turn: u64, random: &mut Random) -> Request {
+    Request::word(match turn % 2 {
+        0 => near_integer(format, turn / 2, random),
+        _ => pattern(format, turn / 2, random),
+    })
+}
+
+/// Operands of scalbn: every class of x, and powers that send it to where something changes.
+pub fn for_scaling(format: Format, turn: u64, random: &mut Random) -> Request {
+    let (bias, digits) = (format.bias() as i32, format.fraction_bits as i32);
+    let x =
+        if random.coin() { near_step(format, random) } else { pattern(format, turn / 9, random) };
+    let half_unit = -(format.unit_shift() as i32) - 1;
+    let (top, last) = ends(format, x);
+    let n = match turn % 9 {
+        0 => random.between(-3, 3),
+        // As far as the field reaches, and a little further.
+        1 => random.between(-2 * bias - digits - 4, 2 * bias + digits + 4),
+        // The result is subnormal, or has just ceased to be.
+        2 => half_unit + random.between(-2, digits + 3) - top,
+        // The last digit set comes to stand at half the smallest unit, or next to it: ties and what is beside them.
+        3 => half_unit + random.pick(&[-1, 0, 0, 1]) - last,
+        // So does another digit, with what is set below it for a tail.
+        4 => half_unit - random.between(last.min(top), top),
+        // About the greatest exponent.
+        5 => bias + random.between(-1, 2) - top,
+        // Steps in which a routine may scale.
+        6 => random.between(-3, 3) * bias + random.between(-digits - 2, digits + 2),
+        7 => random.pick(&[i32::MIN, i32::MIN + 1, i32::MAX, i32::MAX - 1, 1 << 30, -1 << 16]),
+        _ => random.word() as i32 >> random.below(32),
+    };
+    Request::word_and_number(x, n)
+}
+
+/// A number about the least, the middle or the greatest exponent: a routine that scales in steps of the whole range then
+/// has its last step among the subnormals, where a step too many rounds twice.
+fn near_step(format: Format, random: &mut Random) -> u64 {
+    let (bias, digits) = (format.bias() as i32, format.fraction_bits as i32);
+    let field = random.pick(&[0, bias, 2 * bias]) + random.between(-digits - 3, digits + 3);
+    let field = field.clamp(0, 2 * bias) as u64;
+    sign(format, random) | field << format.fraction_bits | fraction(format, random)
+}
+
+/// The exponents of the first and the last digit set; those of a zero, infinity or NaN mean nothing.
+fn ends(format: Format, x: u64) -> (i32, i32) {
+    let (field, fraction) = (format.exponent_field(x), format.fraction_field(x));
+    let number = if field == 0 { fraction } else { fraction | format.smallest_normal() };
+    let place = field.max(1) as i32 - 1 - format.unit_shift() as i32;
+    (place + 63 - number.leading_zeros() as i32, place + number.trailing_zeros() as i32)
+}
+
+/// A number whose digits below the point are none, the least, one half, its neighbours, or all of them.
+fn near_integer(format: Format, turn: u64, random: &mut Random) -> u64 {
+    let digits = format.fraction_bits;
+    let above = (turn % (digits as u64 + 5)) as i32 - 2;
+    let below = (digits as i32 - above).clamp(0, digits as i32) as u32;
+    let ones = (1u64 << below) - 1;
+    let half = (1u64 << below) >> 1;
+    let any = random.word();
+    let tail = random.pick(&[0, 1, half, half.saturating_sub(1), half + 1, ones, any]) & ones;
+    let whole = fraction(format, random) & !ones;
+    let field = (format.bias() as i32 + above) as u64;
+    sign(format, random) | field << digits | whole | tail
+}
+
+/// Any pattern, the awkward ones made frequent: every class, every exponent, subnormals of every length.
+fn pattern(format: Format, turn: u64, random: &mut Random) -> u64 {
+    let fields = format.exponent_field(format.infinity()) as u64;
+    let field = random.below(fields) << format.fraction_bits;
+    let magnitude = match turn % 5 {
+        0 => return random.word() & format.all_ones(),
+        1 => special(format, random),
+        2 => random.up_to_bits(format.fraction_bits),
+        3 => field.saturating_add_signed(random.between(-2, 2).into()),
+        _ => field | fraction(format, random),
+    };
+    sign(format, random) | magnitude
+}
+
+/// Magnitudes at the ends of the classes, and NaNs of both sorts.
+fn special(format: Format, random: &mut Random) -> u64 {
+    let (infinity, normal) = (format.infinity(), format.smallest_normal());
+    let quiet = format.canonical_nan();
+    let payload = random.word() & (normal - 1);
+    random.pick(&[
+        0,
+        1,
+        normal - 1,
+        normal,
+        normal + 1,
+        format.one() - 1,
+        format.one(),
+        format.one() + 1,
+        format.largest_finite(),
+        infinity,
+        infinity + 1,
+        quiet - 1,
+        quiet,
+        quiet | payload,
+        infinity | payload & !(quiet ^ infinity) | 1,
+        infinity | normal - 1,
+    ])
+}
+
+/// A fraction field: none, one digit, runs of ones from either end, or any.
+fn fraction(format: Format, random: &mut Random) -> u64 {
+    let all = format.smallest_normal() - 1;
+    let place = random.below(format.fraction_bits.into());
+    let low = (1u64 << place) - 1;
+    let any = random.word() & all;
+    random.pick(&[0, 1, all, 1 << place, low, all & !low, any, any & !low])
+}
+
+fn sign(format: Format, random: &mut Random) -> u64 {
+    if random.coin() { format.sign_bit() } else { 0 }
+}

@@ -1,0 +1,46 @@
+//! What a run leaves behind: lines with the crate's answers, and rows of a table of runs.
+
+use crate::kinds::{KINDS, explain};
+use crate::lines::{write_fields, write_request};
+use crate::run::{Run, Tally, operation_of, requests};
+use crate::table::{Nans, Row};
+use std::collections::HashSet;
+use std::io::Write;
+
+/// `count` different requests with the crate's answers. Where any two NaNs are equal the canonical one is written, and
+/// operands on which the crate is known to differ are left out, so that what is written is what ours must answer.
+pub fn print_lines(row: &Row, seed: u64, count: u64) {
+    let operation = operation_of(row);
+    let mut seen = HashSet::new();
+    for request in requests(row, seed, count) {
+        if seen.len() as u64 == count {
+            break;
+        }
+        let mut answer = (row.crates)(&request);
+        if row.nans == Nans::Equal && operation.format.is_nan(answer.word) {
+            answer.word = operation.format.canonical_nan();
+        }
+        if explain(&KINDS, operation, &request, &(row.ours)(&request)).is_some() {
+            continue;
+        }
+        let text = write_request(operation, &request.fields(operation));
+        if seen.insert(text.clone()) {
+            println!("{text} -> {}", write_fields(operation, &answer.fields(operation)));
+        }
+    }
+}
+
+/// Rows for the table that tools/compare heads.
+pub fn append_rows(path: &str, run: &Run, tallies: &[Tally]) -> Result<(), String> {
+    let unwritten = |error: std::io::Error| format!("cannot write {path}: {error}");
+    let mut file =
+        std::fs::OpenOptions::new().append(true).create(true).open(path).map_err(unwritten)?;
+    for tally in tallies {
+        let (name, operands, seed, on) =
+            (tally.operation.name, &tally.operands, &tally.seed, &run.on);
+        let (found, explained) = (tally.unexplained + tally.panics, tally.explained_text());
+        writeln!(file, "| {name} | {operands} | {seed} | {on} | {found} | {explained} |")
+            .map_err(unwritten)?;
+    }
+    Ok(())
+}

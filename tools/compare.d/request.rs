@@ -1,0 +1,106 @@
+//! A request and an answer as plain numbers, cheap enough for billions of them, and the same as fields of a line.
+
+use crate::operations::{Field, INEXACT, INVALID, Kind, OK, Operation, Status};
+
+/// Words, at most one decimal number, and lists, each in the order of the line.
+#[derive(Clone, Debug, Default, PartialEq, Eq)]
+pub struct Request {
+    pub words: [u64; 3],
+    pub number: i64,
+    pub lists: [Vec<u64>; 2],
+}
+
+/// The word, the number beside it (a status by its number, a quotient, a refusal) and the list of an answer.
+#[derive(Clone, Debug, Default, PartialEq, Eq)]
+pub struct Answer {
+    pub word: u64,
+    pub number: i64,
+    pub list: Vec<u64>,
+}
+
+impl Request {
+    pub fn word(x: u64) -> Request {
+        Request { words: [x, 0, 0], ..Request::default() }
+    }
+    pub fn word_and_number(x: u64, number: i32) -> Request {
+        Request { words: [x, 0, 0], number: number.into(), ..Request::default() }
+    }
+    pub fn x(&self) -> u64 {
+        self.words[0]
+    }
+    pub fn x32(&self) -> u32 {
+        self.words[0] as u32
+    }
+    pub fn n(&self) -> i32 {
+        self.number as i32
+    }
+
+    pub fn of_fields(fields: &[Field]) -> Request {
+        let mut request = Request::default();
+        let (mut words, mut lists) = (0, 0);
+        for field in fields {
+            match field {
+                Field::Word(word) => {
+                    request.words[words] = *word;
+                    words += 1;
+                }
+                Field::Signed(number) => request.number = (*number).into(),
+                Field::Unsigned(number) => request.number = (*number).into(),
+                Field::Words(list) => {
+                    request.lists[lists] = list.clone();
+                    lists += 1;
+                }
+                Field::Status(_) => unreachable!("no operand is a status"),
+            }
+        }
+        request
+    }
+
+    pub fn fields(&self, operation: &Operation) -> Vec<Field> {
+        let (mut words, mut lists) = (self.words.iter(), self.lists.iter());
+        let field = |kind: &Kind| match kind {
+            Kind::Word => words.next().map(|word| Field::Word(*word)),
+            Kind::Signed => Some(Field::Signed(self.number as i32)),
+            Kind::Unsigned => Some(Field::Unsigned(self.number as u32)),
+            Kind::Words => lists.next().map(|list| Field::Words(list.clone())),
+            Kind::Status => None,
+        };
+        operation.operand_kinds().iter().filter_map(field).collect()
+    }
+}
+
+impl Answer {
+    pub fn value(word: u64) -> Answer {
+        Answer { word, ..Answer::default() }
+    }
+    pub fn status(word: u64, status: u32) -> Answer {
+        Answer { word, number: status.into(), ..Answer::default() }
+    }
+    pub fn both((word, status): (u64, u32)) -> Answer {
+        Answer::status(word, status)
+    }
+    pub fn both32((word, status): (u32, u32)) -> Answer {
+        Answer::status(word.into(), status)
+    }
+
+    pub fn fields(&self, operation: &Operation) -> Vec<Field> {
+        let field = |kind: &Kind| match kind {
+            Kind::Word => Field::Word(self.word),
+            Kind::Signed => Field::Signed(self.number as i32),
+            Kind::Unsigned => Field::Unsigned(self.number as u32),
+            Kind::Words => Field::Words(self.list.clone()),
+            Kind::Status => Field::Status(status_of(self.number)),
+        };
+        operation.answer_kinds().iter().map(field).collect()
+    }
+}
+
+/// The status of a number of docs/DIFFERENCES.md. A number that none has shows as both words, which no answer has.
+fn status_of(number: i64) -> Status {
+    match number {
+        0 => OK,
+        1 => INVALID,
+        32 => INEXACT,
+        _ => Status(INVALID.0 | INEXACT.0),
+    }
+}

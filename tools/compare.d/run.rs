@@ -1,0 +1,279 @@
+//! The runs: operands are drawn or counted through, both sides are called, and each answer is judged.
+
+use crate::answers::judge;
+use crate::cases::Requests;
+use crate::kinds::{KINDS, explain};
+use crate::lines::{write_fields, write_request};
+use crate::operations::{self, Kind, Operation};
+use crate::random::Random;
+use crate::request::{Answer, Request};
+use crate::table::{Nans, Row};
+use std::collections::BTreeMap;
+use std::panic::{AssertUnwindSafe, catch_unwind};
+use std::sync::Mutex;
+use std::time::{Duration, Instant};
+
+/// Differences beyond these are counted and not printed.
+const PRINTED: u64 = 10;
+/// The plain program's own draws at the head of a run: exact numbers of thousands of digits take their time.
+const MOST_BUILT: u64 = 20_000;
+
+/// A side that is made wrong on purpose, to show that the runs see it.
+#[derive(Clone, Copy, Debug, PartialEq, Eq)]
+pub enum Spoiled {
+    Nothing,
+    Ours,
+    Status,
+    Crate,
+}
+
+impl Spoiled {
+    pub fn read(text: &str) -> Result<Spoiled, String> {
+        match text {
+            "ours" => Ok(Spoiled::Ours),
+            "status" => Ok(Spoiled::Status),
+            "crate" => Ok(Spoiled::Crate),
+            _ => Err(format!("nothing called '{text}' can be spoiled")),
+        }
+    }
+}
+
+/// What holds for every operation of one run.
+pub struct Run {
+    pub seed: u64,
+    /// What ours runs on, for the table.
+    pub on: String,
+    pub spoiled: Spoiled,
+}
+
+/// What one operation's run has found.
+pub struct Tally {
+    pub operation: &'static Operation,
+    /// How many operands, and from what seed, if any.
+    pub operands: String,
+    pub seed: String,
+    pub tried: u64,
+    pub unexplained: u64,
+    pub panics: u64,
+    pub explained: BTreeMap<&'static str, u64>,
+}
+
+impl Tally {
+    fn new(operation: &'static Operation, operands: String, seed: String) -> Tally {
+        Tally {
+            operation,
+            operands,
+            seed,
+            tried: 0,
+            unexplained: 0,
+            panics: 0,
+            explained: BTreeMap::new(),
+        }
+    }
+    pub fn is_clean(&self) -> bool {
+        self.unexplained == 0 && self.panics == 0
+    }
+    pub fn explained_text(&self) -> String {
+        let texts: Vec<String> =
+            self.explained.iter().map(|(entry, count)| format!("{count} {entry}")).collect();
+        if texts.is_empty() { "none".to_string() } else { texts.join(", ") }
+    }
+    fn close(self) -> Tally {
+        let (name, operands, seed) = (self.operation.name, &self.operands, &self.seed);
+        let (found, explained) = (self.unexplained, self.explained_text());
+        let panics =
+            if self.panics > 0 { format!("; {} panics", self.panics) } else { String::new() };
+        println!(
+            "{name}: {operands} operands, seed {seed}: {found} differences not explained, explained: {explained}{panics}"
+        );
+        self
+    }
+}
+
+/// A line on standard error every few seconds.
+struct Progress {
+    next: Instant,
+}
+
+impl Progress {
+    const EVERY: Duration = Duration::from_secs(10);
+
+    fn new() -> Progress {
+        Progress { next: Instant::now() + Progress::EVERY }
+    }
+    fn tell(&mut self, name: &str, done: u64, all: u64) {
+        if Instant::now() >= self.next {
+            self.next += Progress::EVERY;
+            eprintln!("compare: {name} {}%", done as u128 * 100 / all as u128);
+        }
+    }
+}
+
+/// What the last panic said, to be reported with the operands that led to it.
+static PANIC: Mutex<String> = Mutex::new(String::new());
+
+pub fn keep_panics() {
+    std::panic::set_hook(Box::new(|panic| {
+        if let Ok(mut said) = PANIC.lock() {
+            *said = panic.to_string().replace('\n', " ");
+        }
+    }));
+}
+
+pub fn operation_of(row: &Row) -> &'static Operation {
+    operations::find(row.name).expect("each row has the name of an operation of docs/LINES.md")
+}
+
+impl Run {
+    /// The boundary cases of the plain program, then operands drawn quickly.
+    pub fn drawn(&self, row: &Row, count: u64) -> Tally {
+        let operation = operation_of(row);
+        let mut tally = Tally::new(operation, count.to_string(), self.seed.to_string());
+        let mut progress = Progress::new();
+        for (turn, request) in (0..count).zip(requests(row, self.seed, count)) {
+            self.try_one(row, &request, &mut tally);
+            if turn % 256 == 0 {
+                progress.tell(row.name, turn, count);
+            }
+        }
+        tally.close()
+    }
+
+    /// Every pattern of a function of one 32-bit operand.
+    pub fn all_patterns(&self, row: &Row) -> Result<Tally, String> {
+        let operation = operation_of(row);
+        if operation.format.width != 32 || operation.operand_kinds() != [Kind::Word] {
+            return Err(format!("{} is not a function of one 32-bit operand", row.name));
+        }
+        let mut tally = Tally::new(operation, "all 4294967296".to_string(), "none".to_string());
+        let mut progress = Progress::new();
+        for block in 0..1u64 << 12 {
+            for low in 0..1u64 << 20 {
+                self.try_one(row, &Request::word(block << 20 | low), &mut tally);
+            }
+            progress.tell(row.name, block, 1 << 12);
+        }
+        Ok(tally.close())
+    }
+
+    fn try_one(&self, row: &Row, request: &Request, tally: &mut Tally) {
+        tally.tried += 1;
+        let sides = catch_unwind(AssertUnwindSafe(|| ((row.ours)(request), (row.crates)(request))));
+        let Ok((mut ours, mut crates)) = sides else {
+            tally.panics += 1;
+            if tally.panics <= PRINTED {
+                let said = PANIC.lock().map(|said| said.clone()).unwrap_or_default();
+                println!(
+                    "panic: {}; {said}",
+                    write_request(tally.operation, &request.fields(tally.operation))
+                );
+            }
+            return;
+        };
+        if self.spoiled != Spoiled::Nothing && tally.tried % 1000 == 0 {
+            match self.spoiled {
+                Spoiled::Ours => ours.word ^= 1,
+                Spoiled::Status => ours.number ^= 32,
+                _ => crates.word ^= 1,
+            }
+        }
+        if !same(row.nans, tally.operation, &ours, &crates) {
+            report(request, &ours, &crates, tally);
+        }
+    }
+}
+
+/// Whether two answers count as the same.
+fn same(nans: Nans, operation: &Operation, ours: &Answer, crates: &Answer) -> bool {
+    let format = operation.format;
+    let word_same = match nans == Nans::Equal && format.is_nan(crates.word) {
+        true => ours.word == format.canonical_nan(),
+        false => ours.word == crates.word,
+    };
+    let number_same = ours.number == crates.number || leaves_status_out(operation);
+    word_same && number_same && ours.list == crates.list
+}
+
+/// The later text of the crate has other statuses, so they count only where the given text decides them.
+fn leaves_status_out(operation: &Operation) -> bool {
+    !oracle::api::STATUSES && operation.answer_kinds().contains(&Kind::Status)
+}
+
+fn report(request: &Request, ours: &Answer, crates: &Answer, tally: &mut Tally) {
+    let operation = tally.operation;
+    if let Some(entry) = explain(&KINDS, operation, request, ours) {
+        *tally.explained.entry(entry).or_default() += 1;
+        return;
+    }
+    tally.unexplained += 1;
+    if tally.unexplained > PRINTED {
+        return;
+    }
+    let operands = request.fields(operation);
+    let [ours, crates] =
+        [ours, crates].map(|side| write_fields(operation, &side.fields(operation)));
+    let exact = write_fields(operation, &judge(operation, &operands));
+    let request = write_request(operation, &operands);
+    println!("difference: {request} -> {ours}; the crate gives {crates}; exact: {exact}");
+}
+
+/// The stream of requests: the plain program's grid in any order, at most half of the count, so that a short run too has
+/// all classes; some of its drawn boundary cases, which take longer to make; then the row's own draws.
+pub fn requests(row: &Row, seed: u64, count: u64) -> impl Iterator<Item = Request> {
+    let operation = operation_of(row);
+    let (draw, format) = (row.draw, operation.format);
+    let mut random = Random::new(seed, 1000);
+    let mut built = Requests::new(operation, seed);
+    let mut grid: Vec<Request> =
+        (0..built.grid_left()).map(|_| Request::of_fields(&built.next())).collect();
+    grid.sort_by_cached_key(|_| random.word());
+    grid.truncate((count / 2) as usize);
+    let boundaries =
+        (0..(count / 20).min(MOST_BUILT)).map(move |_| Request::of_fields(&built.next()));
+    let drawn = (0..).map(move |turn| draw(format, turn, &mut random));
+    grid.into_iter().chain(boundaries).chain(drawn)
+}
+
+#[cfg(test)]
+mod tests {
+    use super::*;
+
+    const NAN: u64 = 0x7ff8000000000000;
+
+    fn counts_as_same(nans: Nans, ours: u64, crates: u64) -> bool {
+        same(
+            nans,
+            operations::find("scalbn64").unwrap(),
+            &Answer::value(ours),
+            &Answer::value(crates),
+        )
+    }
+
+    #[test]
+    fn where_nans_are_equal_ours_is_the_canonical_one() {
+        assert!(counts_as_same(Nans::Equal, NAN, NAN | 1));
+        assert!(counts_as_same(Nans::Equal, NAN, 0xfff0000000000001));
+        assert!(!counts_as_same(Nans::Equal, NAN | 1, NAN | 1));
+        assert!(!counts_as_same(Nans::Equal, NAN, 0x7ff0000000000000));
+        assert!(!counts_as_same(Nans::Equal, 0x7ff0000000000000, NAN));
+    }
+    #[test]
+    fn bit_for_bit_means_nans_too() {
+        assert!(counts_as_same(Nans::BitForBit, 0xfff0000000000001, 0xfff0000000000001));
+        assert!(!counts_as_same(Nans::BitForBit, NAN, NAN | 1));
+    }
+    #[test]
+    fn every_row_has_an_operation_and_makes_its_count() {
+        for row in &crate::table::ROWS {
+            assert_eq!(requests(row, 1, 3000).take(3000).count(), 3000);
+        }
+    }
+    #[test]
+    fn fields_and_numbers_are_the_same_request() {
+        for row in &crate::table::ROWS {
+            for request in requests(row, 1, 2000).take(2000) {
+                assert_eq!(Request::of_fields(&request.fields(operation_of(row))), request);
+            }
+        }
+    }
+}

@@ -1,0 +1,91 @@
+//! The operations that are run: one row says how ours is called, how the crate's is, and what counts as the same answer.
+//!
+//! The kinds of the operands and of the answer, a status among them or not, are those of docs/LINES.md, found by the name.
+//! A new operation is a new row here, its functions of the archive among those below, and a way to draw its operands.
+
+use crate::format::Format;
+use crate::quick;
+use crate::random::Random;
+use crate::request::{Answer, Request};
+use oracle::api;
+
+/// What becomes of NaN answers.
+#[derive(Clone, Copy, Debug, PartialEq, Eq)]
+pub enum Nans {
+    /// Any two are equal, and ours must be the canonical one.
+    Equal,
+    /// They are compared as all other answers are.
+    BitForBit,
+}
+
+pub struct Row {
+    pub name: &'static str,
+    pub nans: Nans,
+    pub draw: fn(Format, u64, &mut Random) -> Request,
+    pub ours: fn(&Request) -> Answer,
+    pub crates: fn(&Request) -> Answer,
+}
+
+extern "C" {
+    fn pk_trunc64(x: u64) -> u64;
+    fn pk_trunc64_status(x: u64) -> u32;
+    fn pk_trunc32(x: u32) -> u32;
+    fn pk_trunc32_status(x: u32) -> u32;
+    fn pk_floor64(x: u64) -> u64;
+    fn pk_floor64_status(x: u64) -> u32;
+    fn pk_floor32(x: u32) -> u32;
+    fn pk_floor32_status(x: u32) -> u32;
+    fn pk_scalbn64(x: u64, n: i32) -> u64;
+    fn pk_scalbn32(x: u32, n: i32) -> u32;
+}
+
+// Every function of the archive takes and returns numbers, is proved to end, and touches nothing else: that is what makes
+// the calls below safe.
+pub static ROWS: [Row; 6] = [
+    Row {
+        name: "trunc64",
+        nans: Nans::BitForBit,
+        draw: quick::for_whole,
+        ours: |r| unsafe { Answer::status(pk_trunc64(r.x()), pk_trunc64_status(r.x())) },
+        crates: |r| Answer::both(api::trunc64(r.x())),
+    },
+    Row {
+        name: "trunc32",
+        nans: Nans::BitForBit,
+        draw: quick::for_whole,
+        ours: |r| unsafe { Answer::status(pk_trunc32(r.x32()).into(), pk_trunc32_status(r.x32())) },
+        crates: |r| Answer::both32(api::trunc32(r.x32())),
+    },
+    Row {
+        name: "floor64",
+        nans: Nans::BitForBit,
+        draw: quick::for_whole,
+        ours: |r| unsafe { Answer::status(pk_floor64(r.x()), pk_floor64_status(r.x())) },
+        crates: |r| Answer::both(api::floor64(r.x())),
+    },
+    Row {
+        name: "floor32",
+        nans: Nans::BitForBit,
+        draw: quick::for_whole,
+        ours: |r| unsafe { Answer::status(pk_floor32(r.x32()).into(), pk_floor32_status(r.x32())) },
+        crates: |r| Answer::both32(api::floor32(r.x32())),
+    },
+    Row {
+        name: "scalbn64",
+        nans: Nans::Equal,
+        draw: quick::for_scaling,
+        ours: |r| unsafe { Answer::value(pk_scalbn64(r.x(), r.n())) },
+        crates: |r| Answer::value(api::scalbn64(r.x(), r.n())),
+    },
+    Row {
+        name: "scalbn32",
+        nans: Nans::Equal,
+        draw: quick::for_scaling,
+        ours: |r| unsafe { Answer::value(pk_scalbn32(r.x32(), r.n()).into()) },
+        crates: |r| Answer::value(api::scalbn32(r.x32(), r.n()).into()),
+    },
+];
+
+pub fn find(name: &str) -> Option<&'static Row> {
+    ROWS.iter().find(|row| row.name == name)
+}

@@ -1,0 +1,70 @@
+//! The crate's operations on bit patterns, each under its own name so that a disassembly shows it.
+
+use crate::math::generic;
+use crate::math::support::{Round, Status, linear_mul_reduction};
+
+/// A value and a status as the numbers of docs/DIFFERENCES.md: 0 OK, 1 INVALID, 32 INEXACT.
+/// They mean something only where floor, trunc, sqrt and env are the given text; see `STATUSES`.
+pub type Answer<Word> = (Word, u32);
+
+/// Whether the statuses are those of 0.2.16: the build says so where it has the given text.
+pub const STATUSES: bool = cfg!(given_statuses);
+
+fn number(status: Status) -> u32 {
+    let known = [(Status::OK, 0), (Status::INVALID, 1), (Status::INEXACT, 32)];
+    known.iter().find(|(one, _)| *one == status).map_or(u32::MAX, |(_, number)| *number)
+}
+
+macro_rules! with_status {
+    ($name:ident, $word:ty, $float:ty, $call:expr) => {
+        #[inline(never)]
+        pub fn $name(x: $word) -> Answer<$word> {
+            let call: fn($float) -> crate::math::support::FpResult<$float> = $call;
+            let result = call(<$float>::from_bits(x));
+            (result.val.to_bits(), number(result.status))
+        }
+    };
+}
+with_status!(sqrt64, u64, f64, |x| generic::sqrt_round(x, Round::Nearest));
+with_status!(sqrt32, u32, f32, |x| generic::sqrt_round(x, Round::Nearest));
+with_status!(floor64, u64, f64, generic::floor_status);
+with_status!(floor32, u32, f32, generic::floor_status);
+with_status!(trunc64, u64, f64, generic::trunc_status);
+with_status!(trunc32, u32, f32, generic::trunc_status);
+
+macro_rules! value_alone {
+    ($name:ident, $word:ty, $float:ty, ($($operand:ident),+), $call:expr) => {
+        #[inline(never)]
+        pub fn $name($($operand: $word),+) -> $word {
+            $call($(<$float>::from_bits($operand)),+).to_bits()
+        }
+    };
+}
+value_alone!(fma64, u64, f64, (x, y, z), crate::math::fma);
+value_alone!(fma32, u32, f32, (x, y, z), crate::math::fmaf);
+value_alone!(fmod64, u64, f64, (x, y), generic::fmod);
+value_alone!(fmod32, u32, f32, (x, y), generic::fmod);
+
+#[inline(never)]
+pub fn scalbn64(x: u64, n: i32) -> u64 {
+    generic::scalbn(f64::from_bits(x), n).to_bits()
+}
+#[inline(never)]
+pub fn scalbn32(x: u32, n: i32) -> u32 {
+    generic::scalbn(f32::from_bits(x), n).to_bits()
+}
+/// The remainder and the quotient.
+#[inline(never)]
+pub fn remquo64(x: u64, y: u64) -> (u64, i32) {
+    let (rest, quotient) = crate::math::remquo(f64::from_bits(x), f64::from_bits(y));
+    (rest.to_bits(), quotient)
+}
+/// Panics where the crate's does: y above a quarter of the word's range, or x not below twice y.
+#[inline(never)]
+pub fn reduce64(x: u64, shift: u32, y: u64) -> u64 {
+    linear_mul_reduction(x, shift, y)
+}
+#[inline(never)]
+pub fn reduce32(x: u32, shift: u32, y: u32) -> u32 {
+    linear_mul_reduction(x, shift, y)
+}
