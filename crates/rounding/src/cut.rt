@@ -7,8 +7,8 @@ ghost use lib.Count.{leadingZeros};
 ghost use Rattle.rounding.specs.Cut.{below, place, stretched};
 ghost use Rattle.rounding.specs.Place.{Stands};
 ghost use Rattle.rounding.specs.Width.{format, Fits};
-use crate::shed::pow;
 use crate::shed::shed;
+use words::shift::pow;
 
 // What exponents are counted from once they are normalised: -2^21, below all of them, so that what follows compares whole numbers.
 const LIFT: u32 = 2097152;

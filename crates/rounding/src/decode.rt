@@ -4,7 +4,7 @@ ghost use Rattle.ieee.specs.Pattern.{minus, field, fraction};
 ghost use Prim.Native.Nat.{_-_};
 ghost use Rattle.rounding.specs.Decode.{significandOf};
 ghost use Rattle.rounding.specs.Width.{format, Fits};
-use crate::shed::pow;
+use words::shift::pow;
 
 pub fn exponent_field(frac: u32, expo: u32, x: u64) -> u64
     requires { ⌜ Fits frac expo ⌝ }

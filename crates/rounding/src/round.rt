@@ -9,7 +9,7 @@ ghost use Rattle.ieee.specs.Scalbn.{scaled};
 ghost use Rattle.rounding.specs.Width.{format, Fits};
 use crate::choice::nearest_even;
 use crate::cut::cut;
-use crate::shed::pow;
+use words::shift::pow;
 
 // A magnitude with its sign, as a pattern.
 pub fn with_sign(frac: u32, expo: u32, neg: bool, m: u64) -> u64

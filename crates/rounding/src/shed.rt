@@ -4,17 +4,11 @@ ghost use mathlib.Core.Bool.{cond};
 ghost use Prim.Native.Nat.{_/_, _%_, _^_, _≤_, _<_};
 ghost use lib.Dec.{eqb};
 ghost use Rattle.rounding.specs.Cut.{part};
+use words::shift::pow;
 
 pub struct Parts {
     pub kept: u64,
     pub place: u64,
-}
-
-pub fn pow(k: u32) -> u64
-    requires { ⌜ k < 64 ⌝ }
-    ensures { λ r. ⌜ r ≡ 2 ^ k ⌝ }
-{
-    1 << k
 }
 
 // The sticky mark: whether anything is there.

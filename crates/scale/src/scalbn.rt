@@ -17,7 +17,7 @@ use rounding::decode::fraction_field;
 use rounding::decode::is_negative;
 use rounding::decode::significand;
 use rounding::round::round;
-use rounding::shed::pow;
+use words::shift::pow;
 
 // An infinity as it is, and for a NaN the canonical one.
 pub fn special(frac: u32, expo: u32, x: u64) -> u64

@@ -9,10 +9,8 @@ use mir.Facts.{toZ-ofZ, toZ-pos}
 use Rattle.algebra.proofs.Integers.{addZ, subZ, absZ, eqZ, magZ-fact, sfitsZ, nonNegZ}
 use Rattle.rounding.proofs.cut.lifted.Statement.{statement}
 use Rattle.rounding.proofs.cut.lifted.Tie as tie
-use Rattle.rounding.proofs.cut.lifted.Reads as reads
-use Rattle.rounding.proofs.cut.lifted.Lts as lts
 
-module _ (c : lts.Start reads.Pre reads.Post) where
+module _ (c : tie.Start) where
   abbrev less : ℤ
   less = c .args .exp -ℤ pos (c .args .zeros)
 

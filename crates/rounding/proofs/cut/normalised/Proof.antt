@@ -5,11 +5,8 @@ use mir.Facts.{toZ-ofZ}
 use Rattle.algebra.proofs.Leading.{Fills, leading-fills}
 use Rattle.rounding.proofs.cut.normalised.Statement.{statement}
 use Rattle.rounding.proofs.cut.normalised.Tie as tie
-use Rattle.rounding.proofs.cut.normalised.Reads as reads
-use Rattle.rounding.proofs.cut.normalised.Lts as lts
-use Rattle.rounding.proofs.cut.lifted.Reads as lifted-reads
 
-fills : (c : lts.Start (lifted-reads.Asked, lifted-reads.Learnt) reads.Pre reads.Post) → Fills 64 (c .args .sig) (leadingZeros 64 (c .args .sig))
+fills : (c : tie.Start) → Fills 64 (c .args .sig) (leadingZeros 64 (c .args .sig))
 fills c = leading-fills 64 (c .args .sig) (omega arith) (omega arith)
 
 cast-t4 : tie.Need-cast-t4

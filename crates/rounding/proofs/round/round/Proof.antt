@@ -9,13 +9,8 @@ use Rattle.rounding.proofs.Choices.{place-le}
 use Rattle.rounding.proofs.Rounds.{below-in-word, chosen-in-word, round-is}
 use Rattle.rounding.proofs.round.round.Statement.{statement}
 use Rattle.rounding.proofs.round.round.Tie as tie
-use Rattle.rounding.proofs.round.round.Reads as reads
-use Rattle.rounding.proofs.round.round.Lts as lts
-use Rattle.rounding.proofs.choice.nearest_even.Reads as nearest-even-reads
-use Rattle.rounding.proofs.cut.cut.Reads as cut-reads
-use Rattle.rounding.proofs.round.with_sign.Reads as with-sign-reads
 
-cut-is : (c : lts.After-cut (cut-reads.Asked, cut-reads.Learnt, nearest-even-reads.Asked, nearest-even-reads.Learnt, with-sign-reads.Asked, with-sign-reads.Learnt) reads.Pre reads.Post) →
+cut-is : (c : tie.After-cut) →
     (c .cut .result .below ≡ below (format (c .before .args .frac) (c .before .args .expo)) (stretched (c .before .args .sig) (c .before .args .exp))) ×
     (c .cut .result .place ≡ place (format (c .before .args .frac) (c .before .args .expo)) (stretched (c .before .args .sig) (c .before .args .exp)))
 cut-is c = simp (toZ-ofZ, c .before .fits .exp) at (c .cut .ensures)

@@ -9,10 +9,8 @@ use mir.Facts.{toZ-ofZ, toZ-pos}
 use Rattle.algebra.proofs.Integers.{addZ, magZ-fact, sfitsZ}
 use Rattle.scale.proofs.exponent.moved.Statement.{statement}
 use Rattle.scale.proofs.exponent.moved.Tie as tie
-use Rattle.scale.proofs.exponent.moved.Reads as reads
-use Rattle.scale.proofs.exponent.moved.Lts as lts
 
-module _ (c : lts.Start reads.Pre reads.Post) where
+module _ (c : tie.Start) where
   by-pos : toZ w32 (c .args .by) ≡ pos (c .args .by)
   by-pos = toZ-pos w32 (omega arith)
 

@@ -11,10 +11,8 @@ use Rattle.algebra.proofs.Integers.{subZ, sfitsZ}
 use Rattle.scale.proofs.Exponents.{clamp-above, clamp-beneath, clamp-within}
 use Rattle.scale.proofs.exponent.within.Statement.{statement}
 use Rattle.scale.proofs.exponent.within.Tie as tie
-use Rattle.scale.proofs.exponent.within.Reads as reads
-use Rattle.scale.proofs.exponent.within.Lts as lts
 
-module _ (c : lts.Start reads.Pre reads.Post) where
+module _ (c : tie.Start) where
   reach-pos : toZ w32 (c .args .reach) ≡ pos (c .args .reach)
   reach-pos = toZ-pos w32 (omega arith)
 

@@ -7,12 +7,8 @@ use Rattle.rounding.specs.Width.{format}
 use Rattle.scale.proofs.Scales.{field-below, field-room}
 use Rattle.scale.proofs.scalbn.with_field.Statement.{statement}
 use Rattle.scale.proofs.scalbn.with_field.Tie as tie
-use Rattle.scale.proofs.scalbn.with_field.Reads as reads
-use Rattle.scale.proofs.scalbn.with_field.Lts as lts
-use Rattle.rounding.proofs.decode.exponent_field.Reads as exponent-field-reads
-use Rattle.rounding.proofs.shed.pow.Reads as pow-reads
 
-module _ (c : lts.After-exponent-field (pow-reads.Asked, pow-reads.Learnt, exponent-field-reads.Asked, exponent-field-reads.Learnt) reads.Pre reads.Post) where
+module _ (c : tie.After-exponent-field) where
   abbrev x : ℕ
   x = c .before .before .args .x
 

@@ -1,8 +1,9 @@
+-- `words::shift::pow` meets its contract: a power below 2^64 does not wrap. Assumes nothing.
 use native.Mathlib.Omega.{arith}
 use borrow.Author.Needs.{needs}
 use lib.Pow.{pow-lt}
-use Rattle.rounding.proofs.shed.pow.Statement.{statement}
-use Rattle.rounding.proofs.shed.pow.Tie as tie
+use Rattle.words.proofs.shift.pow.Statement.{statement}
+use Rattle.words.proofs.shift.pow.Tie as tie
 
 shl-result : tie.Need-shl-result
 shl-result c = search needs
