@@ -19,7 +19,8 @@ pub fn with_sign(frac: u32, expo: u32, neg: bool, m: u64) -> u64
     if neg { pow(frac + expo) + m } else { m }
 }
 
-// sig times 2^exp smallest units of a format, with a sign, rounded once.
+// sig times 2^exp smallest units of a format, with a sign, rounded once. The last bit of sig may be a sticky mark: a value that was cut to such
+// a sig rounds as it does, where two bits or more are kept between the mark and the last bit of the format (`sticky-answer` in proofs/).
 pub fn round(frac: u32, expo: u32, neg: bool, sig: u64, exp: i32) -> u64
     requires { ⌜ Fits frac expo × (mag exp ≤ 2 ^ 20) ⌝ }
     ensures { λ r. ⌜ r ≡ answer (format frac expo) ties-to-even neg (scaled neg sig exp) ⌝ }
