@@ -1,24 +1,23 @@
--- The units of a number are its significand over a power of two, and all of that fits in a word. Assumes nothing.
+-- The units of a number by its fields, which fit in a word. Assumes nothing.
 use Prim.Native.Nat.{ℕ, zero, suc, _+_, _-_, _*_, _^_, _<_}
-use mathlib.Core.Path.{_≡_, sym, ap, _∙_}
-use mathlib.Core.Bool.{cond}
+use mathlib.Core.Path.{_≡_, ap, _∙_}
 use native.Mathlib.Omega.{arith}
-use lib.Dec.{eqb}
 use lib.Pow.{pow-mono}
-use borrow.Author.Tests.{ne-eqb}
 use Rattle.ieee.specs.Format.{Format, units, fields}
 use Rattle.ieee.specs.Pattern.{magnitude, field, fraction}
 use Rattle.ieee.proofs.Fields.{units-of-fields, fraction-small, field-small}
-use Rattle.rounding.specs.Decode.{significandOf}
 use Rattle.rounding.specs.Width.{format, Fits}
 use Rattle.rounding.proofs.Widths.{fields-small}
 
-pub units-decoded : (f : Format) (x : ℕ) → units f (magnitude f x) ≡ significandOf f x * 2 ^ (field f x - 1)
-units-decoded f x = units-of-fields f x ∙ go (field f x) (fraction f x)
+pub units-subnormal : (f : Format) (x : ℕ) → field f x ≡ 0 → units f (magnitude f x) ≡ fraction f x
+units-subnormal f x h = units-of-fields f x ∙ ap (λ q. fields (2 ^ f .frac) q (fraction f x)) h
+
+pub units-normal : (f : Format) (x : ℕ) → 0 < field f x → units f (magnitude f x) ≡ (2 ^ f .frac + fraction f x) * 2 ^ (field f x - 1)
+units-normal f x l = units-of-fields f x ∙ go (field f x) (fraction f x) l
   where
-    go : (q r : ℕ) → fields (2 ^ f .frac) q r ≡ cond (eqb q 0) r (2 ^ f .frac + r) * 2 ^ (q - 1)
-    go zero r = omega arith
-    go (suc q) r = rw (ne-eqb (suc q) 0 (λ e. omega arith)) (ap (λ j. (2 ^ f .frac + r) * 2 ^ j) (omega arith))
+    go : (q r : ℕ) → 0 < q → fields (2 ^ f .frac) q r ≡ (2 ^ f .frac + r) * 2 ^ (q - 1)
+    go zero r l = absurd (omega arith)
+    go (suc q) r l = ap (λ j. (2 ^ f .frac + r) * 2 ^ j) (omega arith)
 
 module _ {p e : ℕ} (w : Fits p e) (x : ℕ) where
   pub significand-room : 2 ^ p + fraction (format p e) x < 2 ^ 63

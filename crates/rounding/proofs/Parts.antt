@@ -1,9 +1,9 @@
 -- The four places of a remainder. Assumes nothing.
-use Prim.Native.Nat.{ℕ, _*_, _/_, _%_, _^_, _<_}
+use Prim.Native.Nat.{ℕ, _*_, _/_, _%_, _^_, _≤_, _<_}
 use mathlib.Core.Path.{_≡_, ap, _∙_}
-use mathlib.Core.Bool.{Bool, cond}
+use mathlib.Core.Bool.{Bool, true, false, cond}
 use native.Mathlib.Omega.{arith}
-use lib.Dec.{leb}
+use lib.Dec.{leb, eqb}
 use borrow.Author.Tests.{eq-eqb, ne-eqb, le-leb, lt-leb}
 use Rattle.algebra.proofs.Quotients.{div-is}
 use Rattle.rounding.specs.Cut.{part}
@@ -29,3 +29,12 @@ pub all-gone : (s k : ℕ) → 0 < s → 2 * s < 2 ^ k → (s / 2 ^ k ≡ 0) × 
 all-gone s k p h =
     let (q, r) = div-is s (2 ^ k) 0 s (omega arith) (omega arith) in
     (q, ap (λ n. part n (2 ^ k)) r ∙ part-before s (2 ^ k) p h)
+
+pub part-le : (r d : ℕ) → part r d ≤ 3
+part-le r d = go (eqb r 0) (leb d (2 * r)) (leb (2 * r) d)
+  where
+    go : (a b c : Bool) → cond a 0 (cond b (cond c 2 3) 1) ≤ 3
+    go true b c = omega arith
+    go false true true = omega arith
+    go false true false = omega arith
+    go false false c = omega arith

@@ -26,7 +26,7 @@ none-more true m = omega arith
 none-more false m = omega arith
 
 -- the choice is m or the next
-chosen-le : (w : Way) (m p : ℕ) → chosen w m p ≤ suc m
+pub chosen-le : (w : Way) (m p : ℕ) → chosen w m p ≤ suc m
 chosen-le even m p = one-more (ltb 2 (p + m % 2)) m
 chosen-le away m p = one-more (leb 2 p) m
 chosen-le shorter m p = omega arith

@@ -9,9 +9,9 @@ use lib.IntN.{ℤ, pos, negsuc, natAbs, _+ℤ_, _-ℤ_}
 use lib.Signed.{mag, ltZ}
 use borrow.Author.Tests.{lt-ltb, le-ltb}
 use Rattle.algebra.proofs.Products.{order}
-use Rattle.algebra.proofs.Integers.{addZ, subZ, eqZ, magZ, magZ-fact, ltZ-true, ltZ-false}
+use Rattle.algebra.proofs.Integers.{absZ, subZ, eqZ, ltZ-true, ltZ-false}
 use Rattle.ieee.specs.Scalbn.{clamp}
-use Rattle.scale.specs.Field.{normalField}
+use Rattle.scale.specs.Field.{above, depthOf}
 
 -- ---- brought into reach
 pub clamp-mag : (b : ℕ) (n : ℤ) → mag (clamp b n) ≤ b
@@ -33,32 +33,36 @@ pub clamp-within : (b : ℕ) (n : ℤ) → ltZ (pos b) n ≡ false → ltZ n (ne
 clamp-within b (pos n) t u = let l = ltZ-false (pos b) (pos n) t in ap pos (omega arith)
 clamp-within b (negsuc n) t u = let l = ltZ-false (negsuc n) (negsuc 0 -ℤ pos b) u in ap negsuc (omega (arith, subZ (negsuc 0) (pos b)))
 
--- a sum of two that are small is small
-pub moved-mag : (n : ℤ) (b : ℕ) → mag n < 2 ^ 18 → b < 2 ^ 18 → mag (n +ℤ pos b) ≤ 2 ^ 20
-moved-mag n b m l =
-    let (u, d) = magZ-fact n m in
-    let r = magZ (n +ℤ pos b) (2 ^ 20) (omega (arith, addZ n (pos b))) (omega (arith, addZ n (pos b))) in
-    omega arith
+-- ---- above nothing, and how deep below the least normal number
+pub above-negative : (n : ℤ) → ltZ n (pos 0) ≡ true → 0 ≡ above n
+above-negative (pos n) t = let l = ltZ-true (pos n) (pos 0) t in absurd (omega arith)
+above-negative (negsuc n) t = refl
 
--- ---- the field of a normal number
-pub field-negative : (n : ℤ) (last : ℕ) → ltZ n (pos 0) ≡ true → 0 ≡ normalField n last
-field-negative (pos n) last t = let l = ltZ-true (pos n) (pos 0) t in absurd (omega arith)
-field-negative (negsuc n) last t = refl
+pub above-not : (n : ℤ) → ltZ n (pos 0) ≡ false → natAbs n ≡ above n
+above-not (pos n) t = refl
+above-not (negsuc n) t = let l = ltZ-false (negsuc n) (pos 0) t in absurd (omega arith)
 
-pub field-inside : (n : ℤ) (last : ℕ) → ltZ n (pos 0) ≡ false → natAbs n < last → natAbs n ≡ normalField n last
-field-inside (pos n) last t h = rw (lt-ltb n last h)
-field-inside (negsuc n) last t h = let l = ltZ-false (negsuc n) (pos 0) t in absurd (omega arith)
+pub depth-none : (n : ℤ) → ltZ (negsuc 0) n ≡ true → 1 ≡ depthOf n
+depth-none (pos n) t = refl
+depth-none (negsuc n) t = let l = ltZ-true (negsuc 0) (negsuc n) t in absurd (omega arith)
 
-pub field-outside : (n : ℤ) (last : ℕ) → last ≤ natAbs n → 0 ≡ normalField n last
-field-outside (pos n) last h = rw (le-ltb n last h)
-field-outside (negsuc n) last h = refl
+pub depth-all : (n : ℤ) → ltZ n (negsuc 61) ≡ true → 64 ≡ depthOf n
+depth-all (pos n) t = let l = ltZ-true (pos n) (negsuc 61) t in absurd (omega arith)
+depth-all (negsuc n) t = let l = ltZ-true (negsuc n) (negsuc 61) t in omega arith
 
-pub field-is : (n : ℤ) (last : ℕ) → 0 < normalField n last → (pos (normalField n last) ≡ n) × (normalField n last < last)
-field-is (pos n) last p =
-    order (suc n) last
-    (λ h. let e = lt-ltb n last h in rw e (refl, h))
-    (λ h. let e : normalField (pos n) last ≡ 0 = sym (field-outside (pos n) last (omega arith)) in absurd (omega (arith, e)))
-field-is (negsuc n) last p = absurd (omega arith)
+pub depth-some : (n : ℤ) → ltZ (negsuc 0) n ≡ false → ltZ n (negsuc 61) ≡ false → natAbs (pos 1 -ℤ n) ≡ depthOf n
+depth-some (pos n) t u = let l = ltZ-false (negsuc 0) (pos n) t in absurd (omega arith)
+depth-some (negsuc n) t u = let l = ltZ-false (negsuc n) (negsuc 61) u in omega (arith, absZ (pos 1 -ℤ negsuc n), subZ (pos 1) (negsuc n))
 
-pub field-below : (n : ℤ) (e : ℕ) → normalField n (2 ^ e - 1) < 2 ^ e
-field-below n e = order 1 (normalField n (2 ^ e - 1)) (λ l. let (i, m) = field-is n (2 ^ e - 1) l in omega arith) (λ l. omega (arith, pow-pos e))
+pub depth-least : (n : ℤ) → 1 ≤ depthOf n
+depth-least (pos n) = omega arith
+depth-least (negsuc n) = omega arith
+
+pub depth-most : (n : ℤ) → depthOf n ≤ 64
+depth-most (pos n) = omega arith
+depth-most (negsuc n) = omega arith
+
+-- a field that is one is the exponent itself
+pub above-is : (n : ℤ) → 0 < above n → n ≡ pos (above n)
+above-is (pos n) l = refl
+above-is (negsuc n) l = absurd (omega arith)

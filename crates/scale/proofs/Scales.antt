@@ -1,36 +1,42 @@
 -- scalbn by the exponent field and the fraction of x: the rows, the way from one normal number to another, and the rounding step's. Assumes nothing.
 use Prim.Native.Nat.{ℕ, zero, suc, _+_, _-_, _*_, _/_, _%_, _^_, _≤_, _<_, min}
-use mathlib.Core.Path.{_≡_, sym, ap, _∙_, subst}
+use mathlib.Core.Path.{_≡_, refl, sym, ap, ap₂, _∙_, subst}
 use mathlib.Core.Bool.{Bool, true, false, cond}
-use mathlib.Core.Logic.{_⊎_, inl, inr}
 use native.Mathlib.Nat.{two-pow-succ}
 use native.Mathlib.Omega.{arith}
 use lib.Arith.{digits-lt}
 use lib.Pow.{pow-add, pow-pos, pow-mono}
 use lib.Dec.{eqb}
-use lib.IntN.{ℤ, pos, _+ℤ_}
+use lib.IntN.{ℤ, pos, negsuc, _+ℤ_}
 use lib.Signed.{mag}
-use borrow.Author.Tests.{eq-eqb, ne-eqb}
+use borrow.Author.Tests.{eq-eqb, ne-eqb, lt-ltb}
 use Rattle.algebra.proofs.Products.{order, times, times-le, le-split}
-use Rattle.algebra.proofs.Integers.{up, dn, addZ, eqZ-fact}
+use Rattle.algebra.proofs.Quotients.{div-mod}
+use Rattle.algebra.proofs.Integers.{up, dn, addZ, eqZ, eqZ-fact}
 use Rattle.ieee.specs.Format.{Format, Fair, inf, units, fields, canonical, top}
 use Rattle.ieee.specs.Pattern.{Pattern, minus, magnitude, field, fraction, signed, nan, infinite, finite, kind}
-use Rattle.ieee.specs.Round.{Attribute, ties-to-even, answer}
+use Rattle.ieee.specs.Exact.{ratio}
+use Rattle.ieee.specs.Round.{Attribute, ties-to-even, even, answer}
 use Rattle.ieee.specs.Scalbn.{scaled, reach, clamp, scalbnBy, scalbnIn, scalbnOf}
 use Rattle.ieee.proofs.Units.{units-at, units-lt}
 use Rattle.ieee.proofs.Patterns.{signed-is}
 use Rattle.ieee.proofs.Fields.{magnitude-fields, fraction-small, field-small, units-of-fields, field-finite, kind-by-field, infinite-by-field, nan-by-field}
-use Rattle.ieee.proofs.Decide.{Reads, so, not-so, split, is-true, is-false, eqb-reads, or-reads}
+use Rattle.ieee.proofs.Decide.{split, eqb-reads}
 use Rattle.ieee.proofs.Exacts.{sign-own, answer-held}
 use Rattle.ieee.proofs.Attributes.{answer-pattern}
 use Rattle.ieee.proofs.Scalbns.{clamp-alike}
 use Rattle.rounding.specs.Width.{format, Fits}
-use Rattle.rounding.specs.Decode.{significandOf}
-use Rattle.rounding.proofs.Scaled.{scaled-alike, scaled-moves}
+use Rattle.rounding.proofs.Scaled.{scaled-alike, scaled-moves, answer-chosen}
+use Rattle.rounding.specs.Cut.{part, stretched, chosen}
+use Rattle.rounding.proofs.Choices.{inf-pos}
+use Rattle.rounding.proofs.Rounds.{chosen-le}
+use Rattle.rounding.proofs.Cuts.{Lies, cut-over, cut-subnormal}
+use Rattle.rounding.proofs.Parts.{all-gone}
 use Rattle.rounding.proofs.Widths.{fields-small}
-use Rattle.rounding.proofs.Decoded.{units-decoded}
-use Rattle.scale.specs.Field.{normalField, normalTo}
-use Rattle.scale.proofs.Exponents.{clamp-mag, field-is}
+use Rattle.rounding.proofs.Decoded.{units-subnormal, units-normal}
+use Rattle.scale.specs.Field.{movedTo, above, depthOf}
+use Rattle.scale.specs.Normal.{Normal, fullOf}
+use Rattle.scale.proofs.Exponents.{clamp-mag}
 
 module _ (f : Format) (x : ℕ) (n : ℤ) where
   scalbn-infinite : field f x ≡ 2 ^ f .expo - 1 → fraction f x ≡ 0 → scalbnOf f x n ≡ x
@@ -86,43 +92,75 @@ module _ (f : Format) (x : ℕ) (n : ℤ) where
       by-pred zero r l = absurd (omega arith)
       by-pred (suc k) r l = ap (λ j. (2 ^ f .frac + r) * 2 ^ j) (omega arith)
 
--- x times 2 ^ n, by the significand and the exponent of x
-pub scalbn-rounded : (f : Format) (x : ℕ) (n : ℤ) → field f x < 2 ^ f .expo - 1 →
-    answer f ties-to-even (minus f x) (scaled (minus f x) (significandOf f x) (clamp (reach f) n +ℤ pos (field f x - 1))) ≡ scalbnOf f x n
-scalbn-rounded f x n h =
-    let s = minus f x in
-    let c = clamp (reach f) n in
-    sym (scalbn-finite f x n h ∙ ap (λ u. answer f ties-to-even s (scaled s u c)) (units-decoded f x) ∙ scaled-moves f ties-to-even s (significandOf f x) (field f x - 1) c)
+-- ---- subnormal numbers and zeros, through the rounding step
+pub scalbn-subnormal : (f : Format) → Fair f → (x : ℕ) (n : ℤ) → field f x ≡ 0 →
+    answer f ties-to-even (minus f x) (scaled (minus f x) (fraction f x) (clamp (reach f) n)) ≡ scalbnOf f x n
+scalbn-subnormal f g x n h =
+    let few = pow-mono {i = 2} {j = f .expo} (g .expo-two) in
+    sym (scalbn-finite f x n (omega arith) ∙ ap (λ u. answer f ties-to-even (minus f x) (scaled (minus f x) u (clamp (reach f) n))) (units-subnormal f x h))
 
--- ---- from one normal number to another
-pub record NormalTo (f : Format) (x : ℕ) (n : ℤ) (t : ℕ) : Type 0 where
-  pub below : field f x < 2 ^ f .expo - 1
-  pub normal : 0 < field f x
-  pub sum : pos t ≡ n +ℤ pos (field f x)
-  pub last : t < 2 ^ f .expo - 1
+-- ---- normal numbers: the field moves, or the value is too great, or it falls below the least normal number
+module _ (f : Format) (g : Fair f) (x : ℕ) (n : ℤ) (i : Normal f x) where
+  pub scalbn-moved : (t : ℕ) → Pattern f x → movedTo f x n ≡ pos t → 0 < t → t < 2 ^ f .expo - 1 → x - field f x * 2 ^ f .frac + t * 2 ^ f .frac ≡ scalbnOf f x n
+  scalbn-moved t p e q h = sym (scalbn-unclamped f g x n (i .most) ∙ moved-held f x n t (i .least) q h (sym e) p)
 
-module _ (f : Format) (x : ℕ) (n : ℤ) where
-  pub normal-to-none : (field f x ≡ 0) ⊎ (field f x ≡ 2 ^ f .expo - 1) → 0 ≡ normalTo f x n
-  normal-to-none h = rw (is-true (or-reads (eqb-reads (field f x) 0) (eqb-reads (field f x) (2 ^ f .expo - 1))) h)
+  -- the answer by the cut of the fullOf f x
+  cut-answer : (m p : ℕ) → Lies f (stretched (fullOf f x) (n +ℤ pos (field f x - 1))) m p → scalbnOf f x n ≡ signed f (minus f x) (chosen even m p)
+  cut-answer m p (b, q) =
+      let s = minus f x in
+      scalbn-unclamped f g x n (i .most)
+      ∙ ap (λ u. answer f ties-to-even s (scaled s u n)) (units-normal f x (i .least))
+      ∙ scaled-moves f ties-to-even s (fullOf f x) (field f x - 1) n
+      ∙ answer-chosen f g ties-to-even s (fullOf f x) (n +ℤ pos (field f x - 1))
+      ∙ (λ k. signed f s (chosen even (b k) (q k)))
 
-  pub normal-to-some : (field f x ≡ 0 → ⊥) → (field f x ≡ 2 ^ f .expo - 1 → ⊥) → normalTo f x n ≡ normalField (n +ℤ pos (field f x)) (2 ^ f .expo - 1)
-  normal-to-some a b = rw (is-false (or-reads (eqb-reads (field f x) 0) (eqb-reads (field f x) (2 ^ f .expo - 1))) (elim [ inl z ↦ a z | inr z ↦ b z ]))
+  -- the exponent of the fullOf f x
+  less-one : (z : ℤ) → up z + dn (movedTo f x n) + 1 ≡ dn z + up (movedTo f x n) → n +ℤ pos (field f x - 1) ≡ z
+  less-one z e =
+      eqZ (n +ℤ pos (field f x - 1)) z (omega (arith, addZ n (pos (field f x)), addZ n (pos (field f x - 1)), i .least))
 
-pub normal-to : (f : Format) (x : ℕ) (n : ℤ) (t : ℕ) → t ≡ normalTo f x n → 0 < t → NormalTo f x n t
-normal-to f x n t e p = go (or-reads (eqb-reads (field f x) 0) (eqb-reads (field f x) (2 ^ f .expo - 1))) e
-  where
-    go : {b : Bool} → Reads ((field f x ≡ 0) ⊎ (field f x ≡ 2 ^ f .expo - 1)) b → t ≡ cond b 0 (normalField (n +ℤ pos (field f x)) (2 ^ f .expo - 1)) → NormalTo f x n t
-    go (so h) q = absurd (omega arith)
-    go (not-so h) q =
-        let (i, m) = field-is (n +ℤ pos (field f x)) (2 ^ f .expo - 1) (omega (arith, q)) in
-        let a : (field f x ≡ 0) → ⊥ = λ z. h (inl z) in
-        let b : (field f x ≡ 2 ^ f .expo - 1) → ⊥ = λ z. h (inr z) in
-        record { below = omega (arith, b, field-small f x); normal = omega (arith, a); sum = ap pos q ∙ i; last = omega (arith, q, m) }
+  pub scalbn-over : (t : ℕ) → movedTo f x n ≡ pos t → 2 ^ f .expo - 1 ≤ t → signed f (minus f x) (inf f) ≡ scalbnOf f x n
+  scalbn-over t e k =
+      let few = pow-mono {i = 2} {j = f .expo} (g .expo-two) in
+      let (a, b) = eqZ-fact e in
+      let z = less-one (pos (t - 1)) (omega arith) in
+      let none : f .frac ≡ 0 + f .frac = omega arith in
+      let low : 2 ^ (0 + f .frac) ≤ fullOf f x = subst (λ j. 2 ^ j ≤ fullOf f x) none (omega arith) in
+      let c = cut-over f g 0 (fullOf f x) (t - 1) 0 (t - 1) low (omega arith) (omega arith) in
+      let next : chosen even (inf f - 1) 3 ≡ inf f = rw (lt-ltb 2 (3 + (inf f - 1) % 2) (omega arith)) (omega (arith, inf-pos f g)) in
+      sym (cut-answer (inf f - 1) 3 (subst (λ y. Lies f (stretched (fullOf f x) y) (inf f - 1) 3) (sym z) c) ∙ ap (signed f (minus f x)) next)
 
-pub scalbn-moved : (f : Format) → Fair f → (x : ℕ) (n : ℤ) (t : ℕ) → Pattern f x → t ≡ normalTo f x n → 0 < t → x - field f x * 2 ^ f .frac + t * 2 ^ f .frac ≡ scalbnOf f x n
-scalbn-moved f g x n t h e p =
-    let i = normal-to f x n t e p in
-    sym (scalbn-unclamped f g x n (i .below) ∙ moved-held f x n t (i .normal) p (i .last) (i .sum) h)
+  -- k bits fall below the smallest unit
+  low-lies : (k : ℕ) → Lies f (ratio (fullOf f x) (2 ^ k)) (fullOf f x / 2 ^ k) (part (fullOf f x % 2 ^ k) (2 ^ k))
+  low-lies k =
+      let one : fullOf f x * 2 ^ 0 ≡ fullOf f x = omega arith in
+      let room = pow-mono {i = suc (f .frac)} {j = k + suc (f .frac)} (omega arith) in
+      subst (λ u. Lies f (ratio u (2 ^ k)) (fullOf f x / 2 ^ k) (part (fullOf f x % 2 ^ k) (2 ^ k))) one
+      (cut-subnormal f g (fullOf f x) 0 k k (omega (arith, fraction-small f x, two-pow-succ (f .frac))) (omega arith))
+
+  low-answer : (j d : ℕ) → n +ℤ pos (field f x - 1) ≡ negsuc j → d ≡ min (suc j) 64 → fullOf f x < 2 ^ 63 →
+      signed f (minus f x) (chosen even (fullOf f x / 2 ^ d) (part (fullOf f x % 2 ^ d) (2 ^ d))) ≡ scalbnOf f x n
+  low-answer j d z e h =
+      order (suc j) 64
+      (λ l. let q : d ≡ suc j = omega arith in rw q (sym (here (fullOf f x / 2 ^ suc j) (part (fullOf f x % 2 ^ suc j) (2 ^ suc j)) (low-lies (suc j)))))
+      (λ l.
+      let q : d ≡ 64 = omega arith in
+      let some : 0 < fullOf f x = omega (arith, pow-pos (f .frac)) in
+      let (a, b) = all-gone (fullOf f x) 64 some (omega arith) in
+      let (u, v) = all-gone (fullOf f x) (suc j) some (omega (arith, pow-mono {i = 64} {j = suc j} (omega arith))) in
+      let (m, p) = low-lies (suc j) in
+      rw q (ap₂ (λ k r. signed f (minus f x) (chosen even k r)) a b ∙ sym (here 0 1 (m ∙ u, p ∙ v))))
+    where
+      here : (m p : ℕ) → Lies f (ratio (fullOf f x) (2 ^ suc j)) m p → scalbnOf f x n ≡ signed f (minus f x) (chosen even m p)
+      here m p c = cut-answer m p (subst (λ y. Lies f (stretched (fullOf f x) y) m p) (sym z) c)
+
+  pub scalbn-low : (d : ℕ) → above (movedTo f x n) ≡ 0 → d ≡ depthOf (movedTo f x n) → fullOf f x < 2 ^ 63 →
+      signed f (minus f x) (chosen even (fullOf f x / 2 ^ d) (part (fullOf f x % 2 ^ d) (2 ^ d))) ≡ scalbnOf f x n
+  scalbn-low d a e h = go (movedTo f x n) refl a e
+    where
+      go : (z : ℤ) → movedTo f x n ≡ z → above z ≡ 0 → d ≡ depthOf z → signed f (minus f x) (chosen even (fullOf f x / 2 ^ d) (part (fullOf f x % 2 ^ d) (2 ^ d))) ≡ scalbnOf f x n
+      go (pos t) w b q = let (u, v) = eqZ-fact w in low-answer 0 d (less-one (negsuc 0) (omega arith)) (omega arith) h
+      go (negsuc t) w b q = let (u, v) = eqZ-fact w in low-answer (suc t) d (less-one (negsuc (suc t)) (omega arith)) (omega arith) h
 
 -- ---- what fits in a word
 module _ {p e : ℕ} (w : Fits p e) where
@@ -133,6 +171,26 @@ module _ {p e : ℕ} (w : Fits p e) where
       let (t, q) = le-split {a = 1} {b = 2 ^ e} (pow-pos e) in
       let r : 2 ^ e - 1 ≡ t = omega arith in
       rw r (omega (arith, pow-add 2 p e, times {a = 2 ^ e} {b = t + 1} (2 ^ p) (omega arith)))
+
+  -- what is left of a significand that loses its last bits, and one more
+  pub fallen-room : (x k q : ℕ) → 1 ≤ k → chosen even (fullOf (format p e) x / 2 ^ k) q < 2 ^ (p + e)
+  fallen-room x k q l =
+      let S = fullOf (format p e) x in
+      let (d, r) = div-mod S (2 ^ k) (pow-pos k) in
+      let two = pow-mono {i = 1} {j = k} l in
+      let half : S / 2 ^ k * 2 ≤ S = omega (arith, times-le (S / 2 ^ k) two) in
+      let few = pow-mono {i = 2} {j = e} (w .fair .expo-two) in
+      omega (arith, half, chosen-le even (S / 2 ^ k) q, fraction-small (format p e) x, pow-add 2 p e, times-le (2 ^ p) few, pow-pos p)
+
+  -- and infinity
+  pub infinity-is : 2 ^ (p + e) - 2 ^ p ≡ inf (format p e)
+  infinity-is =
+      let (t, q) = le-split {a = 1} {b = 2 ^ e} (pow-pos e) in
+      let r : 2 ^ e - 1 ≡ t = omega arith in
+      rw r (omega (arith, pow-add 2 p e, times {a = 2 ^ e} {b = t + 1} (2 ^ p) (omega arith)))
+
+  pub infinity-room : 2 ^ p ≤ 2 ^ (p + e)
+  infinity-room = pow-mono {i = p} {j = p + e} (omega arith)
 
   pub canonical-room : 2 ^ (p - 1) ≤ 2 ^ (p + e)
   canonical-room = pow-mono {i = p - 1} {j = p + e} (omega arith)

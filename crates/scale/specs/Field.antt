@@ -1,16 +1,18 @@
--- The exponent field of a normal number times a power of two. Assumes nothing.
-use Prim.Native.Nat.{ℕ, _-_, _^_}
-use mathlib.Core.Bool.{_||_, cond}
-use lib.Dec.{ltb, eqb}
+-- An exponent field that was moved: how far it is above nothing, and how deep below the least normal number. Assumes nothing.
+use Prim.Native.Nat.{ℕ, _+_, min}
 use lib.IntN.{ℤ, pos, negsuc, _+ℤ_}
 use Rattle.ieee.specs.Format.{Format}
 use Rattle.ieee.specs.Pattern.{field}
 
--- an exponent as a field below `last`, from which on fields are not of finite numbers; 0 where there is none
-abbrev pub normalField : ℤ → ℕ → ℕ
-normalField (pos n) last = cond (ltb n last) n 0
-normalField (negsuc n) last = 0
+-- the exponent field of x moved by n
+abbrev pub movedTo : Format → ℕ → ℤ → ℤ
+movedTo f x n = n +ℤ pos (field f x)
 
--- the field of x times 2 ^ n, where both are normal numbers, and else 0
-abbrev pub normalTo : Format → ℕ → ℤ → ℕ
-normalTo f x n = cond (eqb (field f x) 0 || eqb (field f x) (2 ^ f .expo - 1)) 0 (normalField (n +ℤ pos (field f x)) (2 ^ f .expo - 1))
+abbrev pub above : ℤ → ℕ
+above (pos n) = n
+above (negsuc n) = 0
+
+-- so many bits of the significand of a number with that field stand below the smallest unit, where it is 0 or less; 64 stand for more
+abbrev pub depthOf : ℤ → ℕ
+depthOf (pos n) = 1
+depthOf (negsuc n) = min (2 + n) 64

@@ -1,10 +1,9 @@
-// Signed exponents: brought into reach, added to, and as a field of the format.
+// Signed exponents: brought into reach, and moved by a field of the format.
 ghost use mathlib.Core.Path.{_≡_};
-ghost use Prim.Native.Nat.{_≤_, _<_, _^_};
+ghost use Prim.Native.Nat.{_<_, _^_};
 ghost use lib.IntN.{pos, _+ℤ_};
-ghost use lib.Signed.{mag};
 ghost use Rattle.ieee.specs.Scalbn.{clamp};
-ghost use Rattle.scale.specs.Field.{normalField};
+ghost use Rattle.scale.specs.Field.{above, depthOf};
 
 // n where it is in reach, and else the end of the reach, so that no sum with it can wrap.
 pub fn within(reach: u32, n: i32) -> i32
@@ -21,22 +20,33 @@ pub fn within(reach: u32, n: i32) -> i32
     n
 }
 
-pub fn moved(n: i32, by: u64) -> i32
-    requires { ⌜ (mag n < 2 ^ 18) × (by < 2 ^ 18) ⌝ }
-    ensures { λ r. ⌜ r ≡ n +ℤ pos by ⌝ }
+// The exponent field `at` moved by n: at 64 bits no such sum wraps, whatever n.
+pub fn raised(at: u64, n: i32) -> i64
+    requires { ⌜ at < 2 ^ 18 ⌝ }
+    ensures { λ r. ⌜ r ≡ n +ℤ pos at ⌝ }
 {
-    n + by as i32
+    n as i64 + at as i64
 }
 
-// The exponent field `at` moved by n, where that is the field of a normal number, below `last`, and else 0. At 64 bits no sum of the two wraps.
-pub fn normal_field(at: u64, n: i32, last: u64) -> u64
-    requires { ⌜ at < 2 ^ 18 ⌝ }
-    ensures { λ r. ⌜ r ≡ normalField (n +ℤ pos at) last ⌝ }
+// A field that is one, and 0 for what is below.
+pub fn upper(to: i64) -> u64
+    ensures { λ r. ⌜ r ≡ above to ⌝ }
 {
-    let to = n as i64 + at as i64;
     if to < 0 {
         return 0;
     }
-    let field = to as u64;
-    if field < last { field } else { 0 }
+    to as u64
+}
+
+// How many bits of a significand stand below the smallest unit, where the field is 0 or less; 64 for more, which is all of them.
+pub fn depth(to: i64) -> u32
+    ensures { λ r. ⌜ r ≡ depthOf to ⌝ }
+{
+    if to > -1 {
+        return 1;
+    }
+    if to < -62 {
+        return 64;
+    }
+    (1 - to) as u32
 }

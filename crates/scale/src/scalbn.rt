@@ -1,22 +1,26 @@
 // scalbn: x times 2^n, rounded once.
 ghost use mathlib.Core.Path.{_≡_};
 ghost use mathlib.Core.Bool.{cond};
-ghost use Prim.Native.Nat.{_+_, _-_, _*_, _<_, _^_};
+ghost use Prim.Native.Nat.{_+_, _-_, _*_, _/_, _%_, _≤_, _<_, _^_};
 ghost use lib.Dec.{eqb};
-ghost use Rattle.ieee.specs.Format.{b64, b32, canonical};
-ghost use Rattle.ieee.specs.Pattern.{Pattern, field, fraction};
+ghost use Rattle.ieee.specs.Format.{b64, b32, inf, canonical};
+ghost use Rattle.ieee.specs.Pattern.{Pattern, minus, field, fraction, signed};
+ghost use Rattle.ieee.specs.Round.{even};
 ghost use Rattle.ieee.specs.Scalbn.{scalbnOf};
+ghost use Rattle.rounding.specs.Cut.{part, chosen};
 ghost use Rattle.rounding.specs.Width.{format, Fits};
-ghost use Rattle.scale.specs.Field.{normalTo};
-use crate::exponent::moved;
-use crate::exponent::normal_field;
+ghost use Rattle.scale.specs.Normal.{Normal, fullOf};
+use crate::exponent::depth;
+use crate::exponent::raised;
+use crate::exponent::upper;
 use crate::exponent::within;
-use rounding::decode::exponent;
+use rounding::choice::nearest_even;
 use rounding::decode::exponent_field;
 use rounding::decode::fraction_field;
 use rounding::decode::is_negative;
-use rounding::decode::significand;
 use rounding::round::round;
+use rounding::round::with_sign;
+use rounding::shed::shed;
 use words::shift::pow;
 
 // An infinity as it is, and for a NaN the canonical one.
@@ -39,59 +43,83 @@ pub fn with_field(frac: u32, expo: u32, x: u64, to: u64) -> u64
     x - exponent_field(frac, expo, x) * unit + to * unit
 }
 
-// The exponent field of the answer, where x and the answer are both normal numbers, and else 0.
-pub fn normal_to(frac: u32, expo: u32, x: u64, n: i32) -> u64
+// The infinity with the sign of x.
+pub fn infinity(frac: u32, expo: u32, x: u64) -> u64
     requires { ⌜ Fits frac expo ⌝ }
-    ensures { λ r. ⌜ r ≡ normalTo (format frac expo) x n ⌝ }
+    ensures { λ r. ⌜ r ≡ signed (format frac expo) (minus (format frac expo) x) (inf (format frac expo)) ⌝ }
 {
-    let at = exponent_field(frac, expo, x);
-    let last = pow(expo) - 1;
-    if at == 0 {
-        return 0;
-    }
-    if at == last {
-        return 0;
-    }
-    normal_field(at, n, last)
+    with_sign(
+        frac,
+        expo,
+        is_negative(frac, expo, x),
+        pow(frac + expo) - pow(frac),
+    )
 }
 
-// x times 2^n, whatever the classes of x and of the answer: a finite x through the rounding step.
-pub fn scaled_any(frac: u32, expo: u32, x: u64, n: i32) -> u64
-    requires { ⌜ Fits frac expo ⌝ }
+// A normal x whose significand is to lose its last k bits: the nearest of what is left, by the cut and the choice of the rounding step.
+pub fn fallen(frac: u32, expo: u32, x: u64, k: u32) -> u64
+    requires { ⌜ Fits frac expo × (1 ≤ k) × (k ≤ 64) ⌝ }
+    ensures { λ r. ⌜ r ≡ signed (format frac expo) (minus (format frac expo) x) (chosen even (fullOf (format frac expo) x / 2 ^ k) (part (fullOf (format frac expo) x % 2 ^ k) (2 ^ k))) ⌝ }
+{
+    let c = shed(pow(frac) + fraction_field(frac, expo, x), k);
+    let m = nearest_even(c.kept, c.place);
+    with_sign(frac, expo, is_negative(frac, expo, x), m)
+}
+
+// A normal x times 2^n: the exponent field moves, or bits of the significand fall below the smallest unit, or the value is past the largest number.
+pub fn of_normal(frac: u32, expo: u32, x: u64, n: i32) -> u64
+    requires { ⌜ Fits frac expo × Pattern (format frac expo) x × Normal (format frac expo) x ⌝ }
     ensures { λ r. ⌜ r ≡ scalbnOf (format frac expo) x n ⌝ }
 {
-    let fields = pow(expo);
-    if exponent_field(frac, expo, x) == fields - 1 {
-        return special(frac, expo, x);
+    let to = raised(exponent_field(frac, expo, x), n);
+    let field = upper(to);
+    if field == 0 {
+        return fallen(frac, expo, x, depth(to));
     }
-    let near = within(fields as u32 + frac, n);
-    let exp = moved(near, exponent(frac, expo, x));
+    if field < pow(expo) - 1 {
+        return with_field(frac, expo, x, field);
+    }
+    infinity(frac, expo, x)
+}
+
+// A subnormal x times 2^n, or a zero: the significand is normalised in the rounding step.
+pub fn of_subnormal(frac: u32, expo: u32, x: u64, n: i32) -> u64
+    requires { ⌜ Fits frac expo × (field (format frac expo) x ≡ 0) ⌝ }
+    ensures { λ r. ⌜ r ≡ scalbnOf (format frac expo) x n ⌝ }
+{
+    let near = within(pow(expo) as u32 + frac, n);
     round(
         frac,
         expo,
         is_negative(frac, expo, x),
-        significand(frac, expo, x),
-        exp,
+        fraction_field(frac, expo, x),
+        near,
     )
 }
 
 pub fn scalbn64(x: u64, n: i32) -> u64
     ensures { λ r. ⌜ r ≡ scalbnOf b64 x n ⌝ }
 {
-    let to = normal_to(52, 11, x, n);
-    if to > 0 {
-        return with_field(52, 11, x, to);
+    let at = exponent_field(52, 11, x);
+    if at == 0 {
+        return of_subnormal(52, 11, x, n);
     }
-    scaled_any(52, 11, x, n)
+    if at == 2047 {
+        return special(52, 11, x);
+    }
+    of_normal(52, 11, x, n)
 }
 
 pub fn scalbn32(x: u32, n: i32) -> u32
     ensures { λ r. ⌜ r ≡ scalbnOf b32 x n ⌝ }
 {
     let wide = x as u64;
-    let to = normal_to(23, 8, wide, n);
-    if to > 0 {
-        return with_field(23, 8, wide, to) as u32;
+    let at = exponent_field(23, 8, wide);
+    if at == 0 {
+        return of_subnormal(23, 8, wide, n) as u32;
     }
-    scaled_any(23, 8, wide, n) as u32
+    if at == 255 {
+        return special(23, 8, wide) as u32;
+    }
+    of_normal(23, 8, wide, n) as u32
 }

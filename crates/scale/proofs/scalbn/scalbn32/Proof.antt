@@ -1,53 +1,68 @@
 use Prim.Native.Nat.{_^_, _<_}
-use mathlib.Core.Path.{_≡_, _∙_}
+use mathlib.Core.Path.{_≡_, sym, _∙_}
 use native.Mathlib.Omega.{arith}
 use mir.Facts.{toZ-ofZ}
 use Rattle.ieee.specs.Format.{b32}
 use Rattle.ieee.specs.Scalbn.{scalbnOf}
+use Rattle.ieee.proofs.Fields.{field-small}
 use Rattle.ieee.proofs.Formats.{fair32}
 use Rattle.rounding.proofs.Widths.{fits32}
-use Rattle.scale.specs.Field.{normalTo}
-use Rattle.scale.proofs.Scales.{normal-to, scalbn-moved, scalbn-pattern}
+use Rattle.scale.specs.Normal.{Normal}
+use Rattle.scale.proofs.Scales.{scalbn-special, scalbn-pattern}
 use Rattle.scale.proofs.scalbn.scalbn32.Statement.{statement}
 use Rattle.scale.proofs.scalbn.scalbn32.Tie as tie
-
-to-is : (c : tie.After-normal-to) → c .normal-to .result ≡ normalTo b32 (c .before .args .x) (c .before .args .n)
-to-is c = simp (toZ-ofZ, c .before .fits .n) at (c .normal-to .ensures)
-
-moved-is : (c : tie.After-with-field) → let s = c .before .before .before in c .with-field .result ≡ scalbnOf b32 (s .args .x) (s .args .n)
-moved-is c =
-    let t = c .before .before in
-    c .with-field .ensures ∙ scalbn-moved b32 fair32 (t .before .args .x) (t .before .args .n) (t .normal-to .result) (omega arith) (to-is t) (omega arith)
-
-any-is : (c : tie.After-scaled-any) → let s = c .before .before .before in c .scaled-any .result ≡ scalbnOf b32 (s .args .x) (s .args .n)
-any-is c = simp (toZ-ofZ, c .before .before .before .fits .n) at (c .scaled-any .ensures)
 
 -- the answer fits in the word, so that narrowing it loses nothing
 narrow : (s : tie.Start) → scalbnOf b32 (s .args .x) (s .args .n) < 2 ^ 32
 narrow s = omega (arith, scalbn-pattern b32 fair32 (s .args .x) (s .args .n) (omega arith))
 
-normal-to-requires : tie.Need-normal-to-requires
-normal-to-requires c κs = fits32
+subnormal-is : (c : tie.After-of-subnormal) → let s = c .before .before .before in c .of-subnormal .result ≡ scalbnOf b32 (s .args .x) (s .args .n)
+subnormal-is c = simp (toZ-ofZ, c .before .before .before .fits .n) at (c .of-subnormal .ensures)
 
-with-field-requires : tie.Need-with-field-requires
-with-field-requires c κs =
-    let t = c .before in
-    (fits32, omega arith, omega (arith, normal-to b32 (t .before .args .x) (t .before .args .n) (t .normal-to .result) (to-is t) (omega arith) .last))
+special-is : (c : tie.After-special) → let s = c .before .before .before .before in c .special .result ≡ scalbnOf b32 (s .args .x) (s .args .n)
+special-is c =
+    let e = c .before .before .before in
+    let s = e .before in
+    c .special .ensures ∙ scalbn-special b32 (s .args .x) (s .args .n) (sym (e .exponent-field .ensures) ∙ c .before .if2 .taken)
+
+normal-is : (c : tie.After-of-normal) → let s = c .before .before .before .before in c .of-normal .result ≡ scalbnOf b32 (s .args .x) (s .args .n)
+normal-is c = simp (toZ-ofZ, c .before .before .before .before .fits .n) at (c .of-normal .ensures)
+
+exponent-field-requires : tie.Need-exponent-field-requires
+exponent-field-requires c κs = fits32
+
+of-subnormal-requires : tie.Need-of-subnormal-requires
+of-subnormal-requires c κs = (fits32, sym (c .before .exponent-field .ensures) ∙ c .if1 .taken)
 
 cast-result : tie.Need-cast-result
-cast-result c = record { fits = omega (arith, moved-is c, narrow (c .before .before .before)) }
+cast-result c = record { fits = omega (arith, subnormal-is c, narrow (c .before .before .before)) }
 
 returns : tie.Need-returns
-returns c = moved-is c
+returns c = subnormal-is c
 
-scaled-any-requires : tie.Need-scaled-any-requires
-scaled-any-requires c κs = fits32
+special-requires : tie.Need-special-requires
+special-requires c κs = fits32
 
 cast-result-2 : tie.Need-cast-result-2
-cast-result-2 c = record { fits = omega (arith, any-is c, narrow (c .before .before .before)) }
+cast-result-2 c = record { fits = omega (arith, special-is c, narrow (c .before .before .before .before)) }
 
 returns-2 : tie.Need-returns-2
-returns-2 c = any-is c
+returns-2 c = special-is c
+
+of-normal-requires : tie.Need-of-normal-requires
+of-normal-requires c κs =
+    let e = c .before .before in
+    let i : Normal b32 (e .before .args .x) =
+    record { least = omega (arith, e .exponent-field .ensures); most = omega (arith, e .exponent-field .ensures, field-small b32 (e .before .args .x)) } in
+    (fits32, omega arith, i)
+
+cast-result-3 : tie.Need-cast-result-3
+cast-result-3 c = record { fits = omega (arith, normal-is c, narrow (c .before .before .before .before)) }
+
+returns-3 : tie.Need-returns-3
+returns-3 c = normal-is c
 
 pub scalbn32-spec : {M : Type 1} → statement M
-scalbn32-spec = tie.close (tie.spec normal-to-requires with-field-requires cast-result returns scaled-any-requires cast-result-2 returns-2)
+scalbn32-spec =
+    tie.close
+    (tie.spec exponent-field-requires of-subnormal-requires cast-result returns special-requires cast-result-2 returns-2 of-normal-requires cast-result-3 returns-3)

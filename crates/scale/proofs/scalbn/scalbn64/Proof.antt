@@ -1,35 +1,42 @@
-use mathlib.Core.Path.{_≡_, _∙_}
+use mathlib.Core.Path.{_≡_, sym, _∙_}
 use native.Mathlib.Omega.{arith}
 use mir.Facts.{toZ-ofZ}
 use Rattle.ieee.specs.Format.{b64}
-use Rattle.ieee.proofs.Formats.{fair64}
+use Rattle.ieee.proofs.Fields.{field-small}
 use Rattle.rounding.proofs.Widths.{fits64}
-use Rattle.scale.specs.Field.{normalTo}
-use Rattle.scale.proofs.Scales.{normal-to, scalbn-moved}
+use Rattle.scale.specs.Normal.{Normal}
+use Rattle.scale.proofs.Scales.{scalbn-special}
 use Rattle.scale.proofs.scalbn.scalbn64.Statement.{statement}
 use Rattle.scale.proofs.scalbn.scalbn64.Tie as tie
 
-to-is : (c : tie.After-normal-to) → c .normal-to .result ≡ normalTo b64 (c .before .args .x) (c .before .args .n)
-to-is c = simp (toZ-ofZ, c .before .fits .n) at (c .normal-to .ensures)
+exponent-field-requires : tie.Need-exponent-field-requires
+exponent-field-requires c κs = fits64
 
-normal-to-requires : tie.Need-normal-to-requires
-normal-to-requires c κs = fits64
-
-with-field-requires : tie.Need-with-field-requires
-with-field-requires c κs =
-    let t = c .before in
-    (fits64, omega arith, omega (arith, normal-to b64 (t .before .args .x) (t .before .args .n) (t .normal-to .result) (to-is t) (omega arith) .last))
+of-subnormal-requires : tie.Need-of-subnormal-requires
+of-subnormal-requires c κs = (fits64, sym (c .before .exponent-field .ensures) ∙ c .if1 .taken)
 
 returns : tie.Need-returns
-returns c =
-    let t = c .before .before in
-    c .with-field .ensures ∙ scalbn-moved b64 fair64 (t .before .args .x) (t .before .args .n) (t .normal-to .result) (omega arith) (to-is t) (omega arith)
+returns c = simp (toZ-ofZ, c .before .before .before .fits .n) at (c .of-subnormal .ensures)
 
-scaled-any-requires : tie.Need-scaled-any-requires
-scaled-any-requires c κs = fits64
+special-requires : tie.Need-special-requires
+special-requires c κs = fits64
 
 returns-2 : tie.Need-returns-2
-returns-2 c = simp (toZ-ofZ, c .before .before .before .fits .n) at (c .scaled-any .ensures)
+returns-2 c =
+    let e = c .before .before .before in
+    let s = e .before in
+    c .special .ensures ∙ scalbn-special b64 (s .args .x) (s .args .n) (sym (e .exponent-field .ensures) ∙ c .before .if2 .taken)
+
+normal-is : (c : tie.Else2) → Normal b64 (c .before .before .before .args .x)
+normal-is c =
+    let e = c .before .before in
+    record { least = omega (arith, e .exponent-field .ensures); most = omega (arith, e .exponent-field .ensures, field-small b64 (e .before .args .x)) }
+
+of-normal-requires : tie.Need-of-normal-requires
+of-normal-requires c κs = (fits64, omega arith, normal-is c)
+
+returns-3 : tie.Need-returns-3
+returns-3 c = simp (toZ-ofZ, c .before .before .before .before .fits .n) at (c .of-normal .ensures)
 
 pub scalbn64-spec : {M : Type 1} → statement M
-scalbn64-spec = tie.close (tie.spec normal-to-requires with-field-requires returns scaled-any-requires returns-2)
+scalbn64-spec = tie.close (tie.spec exponent-field-requires of-subnormal-requires returns special-requires returns-2 of-normal-requires returns-3)

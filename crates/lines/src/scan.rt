@@ -1,0 +1,81 @@
+// Finding the parts of a line.
+ghost use Prim.Native.Nat.{_≤_};
+ghost use lib.ListN.{length};
+
+// The first place from `from` on where s has the byte b, or the length of s.
+pub fn find(s: &[u8], from: usize, b: u8) -> usize
+    ensures { λ r. ⌜ r ≤ length (now (s .entry)) ⌝ }
+{
+    let mut i = from;
+    while i < s.len() {
+        if s[i] == b {
+            return i;
+        }
+        i += 1;
+    }
+    s.len()
+}
+
+// Whether ` -> ` stands in s from the place at on.
+fn is_arrow(s: &[u8], at: usize) -> bool {
+    if s.len() < 4 {
+        return false;
+    }
+    if at > s.len() - 4 {
+        return false;
+    }
+    if s[at] != b' ' {
+        return false;
+    }
+    if s[at + 1] != b'-' {
+        return false;
+    }
+    if s[at + 2] != b'>' {
+        return false;
+    }
+    s[at + 3] == b' '
+}
+
+// The place of the first ` -> ` in s, or the length of s.
+pub fn find_arrow(s: &[u8]) -> usize
+    ensures { λ r. ⌜ r ≤ length (now (s .entry)) ⌝ }
+{
+    let mut i = 0;
+    while i < s.len() {
+        if is_arrow(s, i) {
+            return i;
+        }
+        i += 1;
+    }
+    i
+}
+
+// The bytes of s from the place a up to the place e; none where there is no such part.
+pub fn part(s: &[u8], a: usize, e: usize) -> &[u8] {
+    if a <= e {
+        if e <= s.len() {
+            return &s[a..e];
+        }
+    }
+    &s[..0]
+}
+
+// Whether a blank stands at either end of s or beside another one.
+pub fn has_blank_too_many(s: &[u8]) -> bool {
+    let mut after_blank = true;
+    let mut i = 0;
+    while i < s.len() {
+        let is_blank = s[i] == b' ';
+        if is_blank {
+            if after_blank {
+                return true;
+            }
+        }
+        after_blank = is_blank;
+        i += 1;
+    }
+    if s.len() == 0 {
+        return false;
+    }
+    after_blank
+}

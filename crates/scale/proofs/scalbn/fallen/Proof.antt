@@ -1,0 +1,71 @@
+use Prim.Native.Nat.{ℕ, _+_, _/_, _%_, _^_, _<_}
+use mathlib.Core.Path.{_≡_, ap, ap₂, _∙_}
+use native.Mathlib.Omega.{arith}
+use lib.Pow.{pow-pos}
+use borrow.Author.Needs.{needs}
+use Rattle.algebra.proofs.Products.{times-le}
+use Rattle.algebra.proofs.Quotients.{div-mod}
+use Rattle.ieee.specs.Format.{Format}
+use Rattle.ieee.specs.Pattern.{signed}
+use Rattle.ieee.specs.Round.{even}
+use Rattle.rounding.specs.Cut.{part, chosen}
+use Rattle.rounding.specs.Width.{format}
+use Rattle.rounding.proofs.Decoded.{significand-room}
+use Rattle.rounding.proofs.Parts.{part-le}
+use Rattle.scale.specs.Normal.{fullOf}
+use Rattle.scale.proofs.Scales.{fallen-room}
+use Rattle.scale.proofs.scalbn.fallen.Statement.{statement}
+use Rattle.scale.proofs.scalbn.fallen.Tie as tie
+
+abbrev fmt : tie.Start → Format
+fmt s = format (s .args .frac) (s .args .expo)
+
+full-is : (c : tie.After-fraction-field) → let s = c .before .before in c .before .pow .result + c .fraction-field .result ≡ fullOf (fmt s) (s .args .x)
+full-is c = ap₂ _+_ (c .before .pow .ensures) (c .fraction-field .ensures)
+
+cut-is : (c : tie.After-shed) → let s = c .before .before .before in let S = fullOf (fmt s) (s .args .x) in
+    (c .shed .result .kept ≡ S / 2 ^ s .args .k) × (c .shed .result .place ≡ part (S % 2 ^ s .args .k) (2 ^ s .args .k))
+cut-is c =
+    let d = 2 ^ c .before .before .before .args .k in
+    (c .shed .ensures .0 ∙ ap (λ u. u / d) (full-is (c .before)), c .shed .ensures .1 ∙ ap (λ u. part (u % d) d) (full-is (c .before)))
+
+pow-requires : tie.Need-pow-requires
+pow-requires c κs = search needs
+
+fraction-field-requires : tie.Need-fraction-field-requires
+fraction-field-requires c κs = search needs
+
+add-shed : tie.Need-add-shed
+add-shed c = let s = c .before .before in record { fits = omega (arith, full-is c, significand-room (s .pre .0) (s .args .x)) }
+
+shed-requires : tie.Need-shed-requires
+shed-requires c κs = search needs
+
+nearest-even-requires : tie.Need-nearest-even-requires
+nearest-even-requires c κs =
+    let s = c .before .before .before in
+    let S = fullOf (fmt s) (s .args .x) in
+    let d = 2 ^ s .args .k in
+    (omega (arith, cut-is c .0, div-mod S d (pow-pos (s .args .k)), times-le {a = 1} {b = d} (S / d) (pow-pos (s .args .k)), significand-room (s .pre .0) (s .args .x)), omega (arith, cut-is c .1, part-le (S % d) d))
+
+is-negative-requires : tie.Need-is-negative-requires
+is-negative-requires c κs = search needs
+
+with-sign-requires : tie.Need-with-sign-requires
+with-sign-requires c κs =
+    let m = c .before in
+    let s = m .before .before .before .before in
+    let h = ap (λ k. chosen even k (m .before .shed .result .place)) (cut-is (m .before) .0) in
+    (s .pre .0, omega (arith, m .nearest-even .ensures, h, fallen-room (s .pre .0) (s .args .x) (s .args .k) (m .before .shed .result .place) (s .pre .1)))
+
+returns : tie.Need-returns
+returns c =
+    let g = c .before in
+    let m = g .before in
+    let s = m .before .before .before .before in
+    let (a, b) = cut-is (m .before) in
+    c .with-sign .ensures ∙ ap₂ (signed (fmt s)) (g .is-negative .ensures) (m .nearest-even .ensures ∙ ap₂ (chosen even) a b)
+
+pub fallen-spec : {M : Type 1} → statement M
+fallen-spec =
+    tie.close (tie.spec pow-requires fraction-field-requires add-shed shed-requires nearest-even-requires is-negative-requires with-sign-requires returns)

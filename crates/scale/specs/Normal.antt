@@ -1,0 +1,12 @@
+-- A normal number, by its exponent field, and its significand. Assumes nothing.
+use Prim.Native.Nat.{ℕ, _+_, _-_, _^_, _<_}
+use Rattle.ieee.specs.Format.{Format}
+use Rattle.ieee.specs.Pattern.{field, fraction}
+
+pub record Normal (f : Format) (x : ℕ) : Type 0 where
+  pub least : 0 < field f x
+  pub most : field f x < 2 ^ f .expo - 1
+
+-- the fraction, under the bit that is not written
+abbrev pub fullOf : Format → ℕ → ℕ
+fullOf f x = 2 ^ f .frac + fraction f x
