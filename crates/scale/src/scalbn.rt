@@ -48,12 +48,8 @@ pub fn infinity(frac: u32, expo: u32, x: u64) -> u64
     requires { ⌜ Fits frac expo ⌝ }
     ensures { λ r. ⌜ r ≡ signed (format frac expo) (minus (format frac expo) x) (inf (format frac expo)) ⌝ }
 {
-    with_sign(
-        frac,
-        expo,
-        is_negative(frac, expo, x),
-        pow(frac + expo) - pow(frac),
-    )
+    let sign = is_negative(frac, expo, x);
+    with_sign(frac, expo, sign, pow(frac + expo) - pow(frac))
 }
 
 // A normal x whose significand is to lose its last k bits: the nearest of what is left, by the cut and the choice of the rounding step.
@@ -88,13 +84,8 @@ pub fn of_subnormal(frac: u32, expo: u32, x: u64, n: i32) -> u64
     ensures { λ r. ⌜ r ≡ scalbnOf (format frac expo) x n ⌝ }
 {
     let near = within(pow(expo) as u32 + frac, n);
-    round(
-        frac,
-        expo,
-        is_negative(frac, expo, x),
-        fraction_field(frac, expo, x),
-        near,
-    )
+    let neg = is_negative(frac, expo, x);
+    round(frac, expo, neg, fraction_field(frac, expo, x), near)
 }
 
 pub fn scalbn64(x: u64, n: i32) -> u64

@@ -1,3 +1,4 @@
+-- The remainder is the definition's, and its divisor is a power of two, so it is not 0. Assumes nothing.
 use Prim.Native.Nat.{_%_}
 use mathlib.Core.Path.{ap}
 use native.Mathlib.Omega.{arith}

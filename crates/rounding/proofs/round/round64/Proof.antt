@@ -1,3 +1,4 @@
+-- The step of every format that fits, at 64 bits (Widths). Assumes nothing.
 use mir.Facts.{toZ-ofZ}
 use Rattle.rounding.proofs.Widths.{fits64}
 use Rattle.rounding.proofs.round.round64.Statement.{statement}

@@ -1,3 +1,4 @@
+-- A magnitude is below the sign bit, which is 2^63 at most, so that their sum does not wrap. Assumes nothing.
 use Prim.Native.Nat.{_+_, _^_}
 use mathlib.Core.Path.{_≡_, ap, _∙_}
 use native.Mathlib.Omega.{arith}

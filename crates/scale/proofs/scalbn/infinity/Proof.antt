@@ -1,3 +1,4 @@
+-- The sign bit less the least normal number is the magnitude of infinity (Scales). Assumes nothing.
 use Prim.Native.Nat.{_+_, _-_}
 use mathlib.Core.Path.{ap₂, _∙_}
 use native.Mathlib.Omega.{arith}

@@ -1,3 +1,4 @@
+-- The field ends below the normal ones, among them or past them (Exponents), and each is a case of the answer (Scales). Assumes nothing.
 use Prim.Native.Nat.{ℕ, _-_, _^_, _<_}
 use mathlib.Core.Path.{_≡_, sym, ap, _∙_}
 use native.Mathlib.Omega.{arith}

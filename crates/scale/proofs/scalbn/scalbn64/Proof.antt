@@ -1,3 +1,4 @@
+-- The field tells which row of the answer applies: 0, the last (Scales), or a normal number's between them (ieee: Fields). Assumes nothing.
 use mathlib.Core.Path.{_≡_, sym, _∙_}
 use native.Mathlib.Omega.{arith}
 use mir.Facts.{toZ-ofZ}

@@ -1,3 +1,4 @@
+-- What the old field counts is part of x, and what the new one makes of it fits in the word (Scales). Assumes nothing.
 use Prim.Native.Nat.{ℕ, _+_, _-_, _*_, _^_}
 use mathlib.Core.Path.{_≡_, ap₂, _∙_}
 use native.Mathlib.Omega.{arith}
