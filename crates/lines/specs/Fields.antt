@@ -1,14 +1,13 @@
 -- What the bytes of one field say: a word, a number without a sign, a number with one. Assumes nothing.
-use Prim.Native.Nat.{ℕ, zero, suc, _+_, _-_, _≤_, _<_, min}
+use Prim.Native.Nat.{ℕ, min}
 use mathlib.Core.Bool.{Bool, false, cond}
-use mathlib.Core.List.{List, [], _∷_}
+use mathlib.Core.List.{List}
 use lib.Dec.{ltb, eqb}
 use lib.ListN.{length, getD, drop}
-use lib.IntN.{ℤ, pos, negℤ}
+use lib.IntN.{pos, negℤ}
 use Rattle.lines.specs.Digits.{readOn}
 use Rattle.lines.specs.declared.digits.Digits.{Digits}
 use Rattle.lines.specs.declared.digits.Digits.the-variants.{Number, Wrong}
-use Rattle.lines.specs.declared.fields.Fault.{Fault}
 use Rattle.lines.specs.declared.fields.Fault.the-variants.{WrongLength, WrongDigit, NoDigit, LeadingZero, MinusZero, OutOfRange}
 use Rattle.lines.specs.declared.fields.Field.{Field}
 use Rattle.lines.specs.declared.fields.Field.the-variants.{Value, Not}

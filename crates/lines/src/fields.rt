@@ -1,7 +1,6 @@
 // One field of a line: a word in hexadecimal digits, a number in decimal ones.
 ghost use mathlib.Core.Path.{_≡_};
-ghost use Prim.Native.Nat.{_≤_, _<_};
-ghost use lib.ListN.{length};
+ghost use Prim.Native.Nat.{_≤_};
 ghost use Rattle.lines.specs.Fields.{fieldOf, wordOf, leadsWithZero, naturalOf, cappedField, upTo, plusOf, minusOf, signedOf};
 ghost use lib.IntN.{pos, negℤ};
 use crate::digits::Digits;

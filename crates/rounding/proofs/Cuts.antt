@@ -8,7 +8,7 @@ use lib.Arith.{digits-div}
 use lib.Dec.{leb, eqb}
 use lib.Pow.{pow-add, pow-pos, pow-mono}
 use Rattle.algebra.proofs.Products.{order, times, times-le, mul-le-cancel, mul-lt-cancel}
-use Rattle.algebra.proofs.Quotients.{div-mod, div-is}
+use Rattle.algebra.proofs.Quotients.{div-mod}
 use Rattle.ieee.specs.Format.{Format, Fair, inf, units}
 use Rattle.ieee.specs.Exact.{Exact, ratio, Over, over, under}
 use Rattle.ieee.specs.Round.{middle}
@@ -16,7 +16,7 @@ use Rattle.ieee.proofs.Decide.{alike, leb-reads, eqb-reads, is-true, is-false}
 use Rattle.ieee.proofs.Sides.{Sound, over-reads, under-reads, over-down, apart}
 use Rattle.ieee.proofs.Units.{gap, gap-at, units-suc, units-at, units-inf, units-rise}
 use Rattle.rounding.specs.Cut.{below, placeFrom, place, part}
-use Rattle.rounding.proofs.Parts.{tells, part-before}
+use Rattle.rounding.proofs.Parts.{tells}
 use Rattle.rounding.proofs.Choices.{From, inf-pos, below-is, place-is}
 
 -- x lies at the place p above the magnitude m

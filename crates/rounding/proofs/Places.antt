@@ -1,9 +1,8 @@
 -- Where the cut of a significand that fills its word stands, by its exponent: four cases. Assumes nothing.
 use Prim.Native.Nat.{ℕ, suc, _+_, _-_, _*_, _/_, _%_, _^_, _≤_, _<_}
 use mathlib.Core.Path.{_≡_, refl, sym, ap, _∙_}
-use native.Mathlib.Nat.{two-pow-succ}
 use native.Mathlib.Omega.{arith}
-use lib.Pow.{pow-pos, pow-mono, pow-add}
+use lib.Pow.{pow-pos, pow-mono}
 use lib.IntN.{ℤ, pos, _+ℤ_, _-ℤ_}
 use lib.Signed.{mag}
 use lib.Count.{leadingZeros}

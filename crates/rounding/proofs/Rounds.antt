@@ -1,20 +1,18 @@
 -- The cut and the choice make the answer, and all of it fits in a word. Assumes nothing.
-use Prim.Native.Nat.{ℕ, suc, _+_, _*_, _%_, _^_, _≤_, _<_}
+use Prim.Native.Nat.{ℕ, suc, _+_, _%_, _^_, _≤_, _<_}
 use mathlib.Core.Path.{_≡_, sym, ap, ap₂, _∙_}
 use mathlib.Core.Bool.{Bool, true, false, cond}
 use native.Mathlib.Omega.{arith}
 use lib.Dec.{ltb, leb, eqb}
 use lib.Pow.{pow-mono}
 use lib.IntN.{ℤ}
-use Rattle.ieee.specs.Format.{Format, Fair, top, inf}
+use Rattle.ieee.specs.Format.{Format, Fair, inf}
 use Rattle.ieee.specs.Pattern.{signed}
-use Rattle.ieee.specs.Exact.{Exact}
 use Rattle.ieee.specs.Round.{Way, even, away, shorter, longer, ties-to-even, answer}
 use Rattle.ieee.specs.Scalbn.{scaled}
 use Rattle.ieee.proofs.Patterns.{inf-below-top}
 use Rattle.rounding.specs.Cut.{below, place, chosen, stretched}
 use Rattle.rounding.specs.Width.{format, Fits}
-use Rattle.rounding.proofs.Choices.{below-finite}
 use Rattle.rounding.proofs.Scaled.{answer-chosen}
 
 one-more : (b : Bool) (m : ℕ) → m + cond b 1 0 ≤ suc m
@@ -32,14 +30,15 @@ chosen-le away m p = one-more (leb 2 p) m
 chosen-le shorter m p = omega arith
 chosen-le longer m p = none-more (eqb p 0) m
 
-module _ {p e : ℕ} (w : Fits p e) where
-  pub below-in-word : (x : Exact) → below (format p e) x < 2 ^ 63
-  below-in-word x = omega (arith, below-finite (format p e) (w .fair) x, inf-below-top (format p e), pow-mono {i = p + e} {j = 63} (w .word))
+-- a finite magnitude, and what is chosen of it and the next, stay below the sign bit
+module _ {p e : ℕ} (w : Fits p e) (m : ℕ) (l : m < inf (format p e)) where
+  pub finite-in-word : m < 2 ^ 63
+  finite-in-word = omega (arith, inf-below-top (format p e), pow-mono {i = p + e} {j = 63} (w .word))
 
-  pub chosen-in-word : (v : Way) (x : Exact) (m q : ℕ) → m ≡ below (format p e) x → chosen v m q < 2 ^ (p + e)
-  chosen-in-word v x m q h = omega (arith, chosen-le v m q, below-finite (format p e) (w .fair) x, inf-below-top (format p e))
+  pub chosen-in-word : (v : Way) (q : ℕ) → chosen v m q < 2 ^ (p + e)
+  chosen-in-word v q = omega (arith, chosen-le v m q, inf-below-top (format p e))
 
 -- what the two steps leave is the answer
-pub round-is : (f : Format) → Fair f → (s : Bool) (u : ℕ) (n : ℤ) (m p c r : ℕ) → m ≡ below f (stretched u n) → p ≡ place f (stretched u n) → c ≡ chosen even m p → r ≡ signed f s c
+pub round-is : (f : Format) → Fair f → (s : Bool) (u : ℕ) (n : ℤ) (m p r : ℕ) → m ≡ below f (stretched u n) → p ≡ place f (stretched u n) → r ≡ signed f s (chosen even m p)
     → r ≡ answer f ties-to-even s (scaled s u n)
-round-is f g s u n m p c r a b h e = e ∙ ap (signed f s) (h ∙ ap₂ (chosen even) a b) ∙ sym (answer-chosen f g ties-to-even s u n)
+round-is f g s u n m p r a b e = e ∙ ap (signed f s) (ap₂ (chosen even) a b) ∙ sym (answer-chosen f g ties-to-even s u n)

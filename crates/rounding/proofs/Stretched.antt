@@ -1,22 +1,22 @@
 -- The cut of u times 2 ^ n, where s is u moved up by z places. Assumes nothing.
-use Prim.Native.Nat.{ℕ, suc, _+_, _-_, _*_, _/_, _%_, _^_, _≤_, _<_}
+use Prim.Native.Nat.{ℕ, suc, _+_, _*_, _^_, _<_}
 use mathlib.Core.Path.{_≡_, refl, sym, ap, _∙_}
 use native.Mathlib.Omega.{arith}
 use lib.Pow.{pow-add, pow-pos}
 use lib.IntN.{ℤ, pos, negsuc}
 use Rattle.algebra.proofs.Products.{times}
 use Rattle.algebra.proofs.Integers.{up, dn}
-use Rattle.ieee.specs.Format.{Format, Fair, inf, units}
+use Rattle.ieee.specs.Format.{Format, Fair, units}
 use Rattle.ieee.specs.Exact.{Exact, ratio}
 use Rattle.ieee.specs.Round.{Way, shorter, rounded, middle}
 use Rattle.ieee.proofs.Decide.{alike}
 use Rattle.ieee.proofs.Sides.{Sound, over-reads, under-reads}
 use Rattle.ieee.proofs.Alike.{Beside, Places, same-side}
 use Rattle.ieee.proofs.Rises.{ratio-at-most}
-use Rattle.rounding.specs.Cut.{below, place, part, stretched}
+use Rattle.rounding.specs.Cut.{below, stretched}
 use Rattle.rounding.proofs.Parts.{tells}
 use Rattle.rounding.proofs.Choices.{place-is}
-use Rattle.rounding.proofs.Cuts.{Lies, cut-subnormal, cut-zero}
+use Rattle.rounding.proofs.Cuts.{Lies, cut-zero}
 
 -- ---- one value in two forms
 pub same-ratio : (n d k e : ℕ) → 0 < d → 0 < e → n * e ≡ k * d → (s : ℕ) → Beside (ratio n d) (ratio k e) s

@@ -2,10 +2,11 @@
 ghost use mathlib.Core.Path.{_≡_};
 ghost use Prim.Native.Nat.{_+_, _≤_, _<_, _^_};
 ghost use lib.Signed.{mag};
-ghost use Rattle.ieee.specs.Format.{b64, b32};
+ghost use Rattle.ieee.specs.Format.{b64, b32, inf};
 ghost use Rattle.ieee.specs.Pattern.{signed};
-ghost use Rattle.ieee.specs.Round.{answer, ties-to-even};
+ghost use Rattle.ieee.specs.Round.{answer, even, ties-to-even};
 ghost use Rattle.ieee.specs.Scalbn.{scaled};
+ghost use Rattle.rounding.specs.Cut.{chosen};
 ghost use Rattle.rounding.specs.Width.{format, Fits};
 use crate::choice::nearest_even;
 use crate::cut::cut;
@@ -19,14 +20,22 @@ pub fn with_sign(frac: u32, expo: u32, neg: bool, m: u64) -> u64
     if neg { pow(frac + expo) + m } else { m }
 }
 
+// What a cut found, settled: the choice, and the sign. Every rounding ends here, overflow too, where the lower neighbour is the largest number.
+pub fn settled(frac: u32, expo: u32, neg: bool, below: u64, place: u64) -> u64
+    requires { ⌜ Fits frac expo × (below < inf (format frac expo)) × (place ≤ 3) ⌝ }
+    ensures { λ r. ⌜ r ≡ signed (format frac expo) neg (chosen even below place) ⌝ }
+{
+    with_sign(frac, expo, neg, nearest_even(below, place))
+}
+
 // sig times 2^exp smallest units of a format, with a sign, rounded once. The last bit of sig may be a sticky mark: a value that was cut to such
-// a sig rounds as it does, where two bits or more are kept between the mark and the last bit of the format (`sticky-answer` in proofs/).
+// a sig rounds as it does, where sig has two bits more than the format keeps, the mark one of them (`sticky-answer` in proofs/).
 pub fn round(frac: u32, expo: u32, neg: bool, sig: u64, exp: i32) -> u64
     requires { ⌜ Fits frac expo × (mag exp ≤ 2 ^ 20) ⌝ }
     ensures { λ r. ⌜ r ≡ answer (format frac expo) ties-to-even neg (scaled neg sig exp) ⌝ }
 {
     let c = cut(frac, expo, sig, exp);
-    with_sign(frac, expo, neg, nearest_even(c.below, c.place))
+    settled(frac, expo, neg, c.below, c.place)
 }
 
 pub fn round64(neg: bool, sig: u64, exp: i32) -> u64

@@ -1,7 +1,7 @@
 // A word that sheds its last bits, and the place of what goes.
 ghost use mathlib.Core.Path.{_≡_};
 ghost use mathlib.Core.Bool.{cond};
-ghost use Prim.Native.Nat.{_/_, _%_, _^_, _≤_, _<_};
+ghost use Prim.Native.Nat.{_/_, _%_, _^_, _≤_};
 ghost use lib.Dec.{eqb};
 ghost use Rattle.rounding.specs.Cut.{part};
 use words::shift::pow;

@@ -1,14 +1,10 @@
 -- Signed exponents by their tests: brought into reach, and as the field of a normal number. Assumes nothing.
-use Prim.Native.Nat.{ℕ, suc, _-_, _^_, _≤_, _<_, min}
-use mathlib.Core.Path.{_≡_, refl, sym, ap, _∙_}
-use mathlib.Core.Bool.{true, false, cond}
+use Prim.Native.Nat.{ℕ, _≤_, _<_, min}
+use mathlib.Core.Path.{_≡_, refl, ap}
+use mathlib.Core.Bool.{true, false}
 use native.Mathlib.Omega.{arith}
-use lib.Dec.{ltb}
-use lib.Pow.{pow-pos}
-use lib.IntN.{ℤ, pos, negsuc, natAbs, _+ℤ_, _-ℤ_}
+use lib.IntN.{ℤ, pos, negsuc, natAbs, _-ℤ_}
 use lib.Signed.{mag, ltZ}
-use borrow.Author.Tests.{lt-ltb, le-ltb}
-use Rattle.algebra.proofs.Products.{order}
 use Rattle.algebra.proofs.Integers.{absZ, subZ, eqZ, ltZ-true, ltZ-false}
 use Rattle.ieee.specs.Scalbn.{clamp}
 use Rattle.scale.specs.Field.{above, depthOf}

@@ -5,16 +5,16 @@ use mathlib.Core.Bool.{Bool, true, false, cond}
 use native.Mathlib.Nat.{two-pow-succ}
 use native.Mathlib.Omega.{arith}
 use lib.Arith.{digits-lt}
-use lib.Pow.{pow-add, pow-pos, pow-mono}
+use lib.Pow.{pow-add, pow-pos, pow-mono, pow-lt}
 use lib.Dec.{eqb}
 use lib.IntN.{ℤ, pos, negsuc, _+ℤ_}
 use lib.Signed.{mag}
-use borrow.Author.Tests.{eq-eqb, ne-eqb, lt-ltb}
+use borrow.Author.Tests.{eq-eqb, ne-eqb}
 use Rattle.algebra.proofs.Products.{order, times, times-le, le-split}
 use Rattle.algebra.proofs.Quotients.{div-mod}
 use Rattle.algebra.proofs.Integers.{up, dn, addZ, eqZ, eqZ-fact}
 use Rattle.ieee.specs.Format.{Format, Fair, inf, units, fields, canonical, top}
-use Rattle.ieee.specs.Pattern.{Pattern, minus, magnitude, field, fraction, signed, nan, infinite, finite, kind}
+use Rattle.ieee.specs.Pattern.{Pattern, minus, magnitude, field, fraction, signed}
 use Rattle.ieee.specs.Exact.{ratio}
 use Rattle.ieee.specs.Round.{Attribute, ties-to-even, even, answer}
 use Rattle.ieee.specs.Scalbn.{scaled, reach, clamp, scalbnBy, scalbnIn, scalbnOf}
@@ -28,8 +28,6 @@ use Rattle.ieee.proofs.Scalbns.{clamp-alike}
 use Rattle.rounding.specs.Width.{format, Fits}
 use Rattle.rounding.proofs.Scaled.{scaled-alike, scaled-moves, answer-chosen}
 use Rattle.rounding.specs.Cut.{part, stretched, chosen}
-use Rattle.rounding.proofs.Choices.{inf-pos}
-use Rattle.rounding.proofs.Rounds.{chosen-le}
 use Rattle.rounding.proofs.Cuts.{Lies, cut-over, cut-subnormal}
 use Rattle.rounding.proofs.Parts.{all-gone}
 use Rattle.rounding.proofs.Widths.{fields-small}
@@ -104,7 +102,7 @@ module _ (f : Format) (g : Fair f) (x : ℕ) (n : ℤ) (i : Normal f x) where
   pub scalbn-moved : (t : ℕ) → Pattern f x → movedTo f x n ≡ pos t → 0 < t → t < 2 ^ f .expo - 1 → x - field f x * 2 ^ f .frac + t * 2 ^ f .frac ≡ scalbnOf f x n
   scalbn-moved t p e q h = sym (scalbn-unclamped f g x n (i .most) ∙ moved-held f x n t (i .least) q h (sym e) p)
 
-  -- the answer by the cut of the fullOf f x
+  -- the answer by the cut of the significand
   cut-answer : (m p : ℕ) → Lies f (stretched (fullOf f x) (n +ℤ pos (field f x - 1))) m p → scalbnOf f x n ≡ signed f (minus f x) (chosen even m p)
   cut-answer m p (b, q) =
       let s = minus f x in
@@ -114,12 +112,12 @@ module _ (f : Format) (g : Fair f) (x : ℕ) (n : ℤ) (i : Normal f x) where
       ∙ answer-chosen f g ties-to-even s (fullOf f x) (n +ℤ pos (field f x - 1))
       ∙ (λ k. signed f s (chosen even (b k) (q k)))
 
-  -- the exponent of the fullOf f x
+  -- the exponent of the significand
   less-one : (z : ℤ) → up z + dn (movedTo f x n) + 1 ≡ dn z + up (movedTo f x n) → n +ℤ pos (field f x - 1) ≡ z
   less-one z e =
       eqZ (n +ℤ pos (field f x - 1)) z (omega (arith, addZ n (pos (field f x)), addZ n (pos (field f x - 1)), i .least))
 
-  pub scalbn-over : (t : ℕ) → movedTo f x n ≡ pos t → 2 ^ f .expo - 1 ≤ t → signed f (minus f x) (inf f) ≡ scalbnOf f x n
+  pub scalbn-over : (t : ℕ) → movedTo f x n ≡ pos t → 2 ^ f .expo - 1 ≤ t → signed f (minus f x) (chosen even (inf f - 1) 3) ≡ scalbnOf f x n
   scalbn-over t e k =
       let few = pow-mono {i = 2} {j = f .expo} (g .expo-two) in
       let (a, b) = eqZ-fact e in
@@ -127,8 +125,7 @@ module _ (f : Format) (g : Fair f) (x : ℕ) (n : ℤ) (i : Normal f x) where
       let none : f .frac ≡ 0 + f .frac = omega arith in
       let low : 2 ^ (0 + f .frac) ≤ fullOf f x = subst (λ j. 2 ^ j ≤ fullOf f x) none (omega arith) in
       let c = cut-over f g 0 (fullOf f x) (t - 1) 0 (t - 1) low (omega arith) (omega arith) in
-      let next : chosen even (inf f - 1) 3 ≡ inf f = rw (lt-ltb 2 (3 + (inf f - 1) % 2) (omega arith)) (omega (arith, inf-pos f g)) in
-      sym (cut-answer (inf f - 1) 3 (subst (λ y. Lies f (stretched (fullOf f x) y) (inf f - 1) 3) (sym z) c) ∙ ap (signed f (minus f x)) next)
+      sym (cut-answer (inf f - 1) 3 (subst (λ y. Lies f (stretched (fullOf f x) y) (inf f - 1) 3) (sym z) c))
 
   -- k bits fall below the smallest unit
   low-lies : (k : ℕ) → Lies f (ratio (fullOf f x) (2 ^ k)) (fullOf f x / 2 ^ k) (part (fullOf f x % 2 ^ k) (2 ^ k))
@@ -162,38 +159,41 @@ module _ (f : Format) (g : Fair f) (x : ℕ) (n : ℤ) (i : Normal f x) where
       go (pos t) w b q = let (u, v) = eqZ-fact w in low-answer 0 d (less-one (negsuc 0) (omega arith)) (omega arith) h
       go (negsuc t) w b q = let (u, v) = eqZ-fact w in low-answer (suc t) d (less-one (negsuc (suc t)) (omega arith)) (omega arith) h
 
+-- infinity's pattern and one more exponent field are the sign bit
+infinity-top : (f : Format) → inf f + 2 ^ f .frac ≡ top f
+infinity-top f =
+    let (t, q) = le-split {a = 1} {b = 2 ^ f .expo} (pow-pos (f .expo)) in
+    let r : 2 ^ f .expo - 1 ≡ t = omega arith in
+    rw r (omega (arith, pow-add 2 (f .frac) (f .expo), times {a = 2 ^ f .expo} {b = t + 1} (2 ^ f .frac) (omega arith)))
+
 -- ---- what fits in a word
 module _ {p e : ℕ} (w : Fits p e) where
+  two-halves : 2 ^ p ≡ 2 ^ (p - 1) + 2 ^ (p - 1)
+  two-halves = ap (λ k. 2 ^ k) (omega (arith, w .fair .frac-pos)) ∙ two-pow-succ (p - 1)
+
   -- the canonical NaN, as a difference of two bits
   pub canonical-is : 2 ^ (p + e) - 2 ^ (p - 1) ≡ canonical (format p e)
-  canonical-is =
-      let h : 2 ^ p ≡ 2 ^ (p - 1) + 2 ^ (p - 1) = ap (λ k. 2 ^ k) (omega (arith, w .fair .frac-pos)) ∙ two-pow-succ (p - 1) in
-      let (t, q) = le-split {a = 1} {b = 2 ^ e} (pow-pos e) in
-      let r : 2 ^ e - 1 ≡ t = omega arith in
-      rw r (omega (arith, pow-add 2 p e, times {a = 2 ^ e} {b = t + 1} (2 ^ p) (omega arith)))
+  canonical-is = omega (arith, infinity-top (format p e), two-halves)
 
-  -- what is left of a significand that loses its last bits, and one more
-  pub fallen-room : (x k q : ℕ) → 1 ≤ k → chosen even (fullOf (format p e) x / 2 ^ k) q < 2 ^ (p + e)
-  fallen-room x k q l =
+  pub canonical-room : 2 ^ (p - 1) ≤ 2 ^ (p + e)
+  canonical-room = pow-mono {i = p - 1} {j = p + e} (omega arith)
+
+  -- and the largest number
+  pub largest-is : 2 ^ (p + e) - 2 ^ p - 1 ≡ inf (format p e) - 1
+  largest-is = omega (arith, infinity-top (format p e))
+
+  pub largest-room : 2 ^ p < 2 ^ (p + e)
+  largest-room = pow-lt {i = p} {j = p + e} (omega (arith, w .fair .expo-two))
+
+  -- what is left of a significand that loses its last bits
+  pub fallen-room : (x k : ℕ) → 1 ≤ k → fullOf (format p e) x / 2 ^ k < inf (format p e)
+  fallen-room x k l =
       let S = fullOf (format p e) x in
       let (d, r) = div-mod S (2 ^ k) (pow-pos k) in
       let two = pow-mono {i = 1} {j = k} l in
       let half : S / 2 ^ k * 2 ≤ S = omega (arith, times-le (S / 2 ^ k) two) in
       let few = pow-mono {i = 2} {j = e} (w .fair .expo-two) in
-      omega (arith, half, chosen-le even (S / 2 ^ k) q, fraction-small (format p e) x, pow-add 2 p e, times-le (2 ^ p) few, pow-pos p)
-
-  -- and infinity
-  pub infinity-is : 2 ^ (p + e) - 2 ^ p ≡ inf (format p e)
-  infinity-is =
-      let (t, q) = le-split {a = 1} {b = 2 ^ e} (pow-pos e) in
-      let r : 2 ^ e - 1 ≡ t = omega arith in
-      rw r (omega (arith, pow-add 2 p e, times {a = 2 ^ e} {b = t + 1} (2 ^ p) (omega arith)))
-
-  pub infinity-room : 2 ^ p ≤ 2 ^ (p + e)
-  infinity-room = pow-mono {i = p} {j = p + e} (omega arith)
-
-  pub canonical-room : 2 ^ (p - 1) ≤ 2 ^ (p + e)
-  canonical-room = pow-mono {i = p - 1} {j = p + e} (omega arith)
+      omega (arith, half, fraction-small (format p e) x, infinity-top (format p e), pow-add 2 p e, times-le (2 ^ p) few, pow-pos p)
 
   -- x is its sign, its field and its fraction
   parts-sum : (x : ℕ) → Pattern (format p e) x → (s : ℕ) × (s ≤ 2 ^ (p + e)) × (x ≡ s + field (format p e) x * 2 ^ p + fraction (format p e) x)
@@ -208,8 +208,8 @@ module _ {p e : ℕ} (w : Fits p e) where
   pub field-below : (x : ℕ) → Pattern (format p e) x → field (format p e) x * 2 ^ p ≤ x
   field-below x h = let (s, l, q) = parts-sum x h in omega arith
 
-  pub field-room : (x t : ℕ) → Pattern (format p e) x → t < 2 ^ e → x - field (format p e) x * 2 ^ p + t * 2 ^ p < 2 ^ 64
-  field-room x t h l =
+  pub moved-room : (x t : ℕ) → Pattern (format p e) x → t < 2 ^ e → x - field (format p e) x * 2 ^ p + t * 2 ^ p < 2 ^ 64
+  moved-room x t h l =
       let (s, k, q) = parts-sum x h in
       let m = pow-mono {i = p + e} {j = 63} (w .word) in
       omega (arith, pow-add 2 p e, times-le (2 ^ p) l, fraction-small (format p e) x)
@@ -228,11 +228,7 @@ scalbn-pattern f g x n h =
     (λ l. subst (Pattern f) (scalbn-special f x n (omega (arith, field-small f x))) (either (eqb (fraction f x) 0)))
   where
     canonical-pattern : Pattern f (canonical f)
-    canonical-pattern =
-        let (t, q) = le-split {a = 1} {b = 2 ^ f .expo} (pow-pos (f .expo)) in
-        let r : 2 ^ f .expo - 1 ≡ t = omega arith in
-        let m = pow-mono {i = f .frac - 1} {j = f .frac} (omega arith) in
-        rw r (omega (arith, m, pow-pos (f .frac), pow-add 2 (f .frac) (f .expo), times {a = 2 ^ f .expo} {b = t + 1} (2 ^ f .frac) (omega arith)))
+    canonical-pattern = omega (arith, infinity-top f, pow-mono {i = f .frac - 1} {j = f .frac} (omega arith), pow-pos (f .frac))
 
     either : (b : Bool) → Pattern f (cond b x (canonical f))
     either true = h

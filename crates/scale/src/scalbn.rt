@@ -14,17 +14,16 @@ use crate::exponent::depth;
 use crate::exponent::raised;
 use crate::exponent::upper;
 use crate::exponent::within;
-use rounding::choice::nearest_even;
 use rounding::decode::exponent_field;
 use rounding::decode::fraction_field;
 use rounding::decode::is_negative;
 use rounding::round::round;
-use rounding::round::with_sign;
+use rounding::round::settled;
 use rounding::shed::shed;
 use words::shift::pow;
 
 // An infinity as it is, and for a NaN the canonical one.
-pub fn special(frac: u32, expo: u32, x: u64) -> u64
+fn special(frac: u32, expo: u32, x: u64) -> u64
     requires { ⌜ Fits frac expo ⌝ }
     ensures { λ r. ⌜ r ≡ cond (eqb (fraction (format frac expo) x) 0) x (canonical (format frac expo)) ⌝ }
 {
@@ -35,7 +34,7 @@ pub fn special(frac: u32, expo: u32, x: u64) -> u64
 }
 
 // x with another exponent field: from one normal number to another the fraction stays as it is.
-pub fn with_field(frac: u32, expo: u32, x: u64, to: u64) -> u64
+fn with_field(frac: u32, expo: u32, x: u64, to: u64) -> u64
     requires { ⌜ Fits frac expo × Pattern (format frac expo) x × (to < 2 ^ expo) ⌝ }
     ensures { λ r. ⌜ r ≡ x - field (format frac expo) x * 2 ^ frac + to * 2 ^ frac ⌝ }
 {
@@ -43,27 +42,26 @@ pub fn with_field(frac: u32, expo: u32, x: u64, to: u64) -> u64
     x - exponent_field(frac, expo, x) * unit + to * unit
 }
 
-// The infinity with the sign of x.
-pub fn infinity(frac: u32, expo: u32, x: u64) -> u64
+// A value with the sign of x past the largest number: that one is the lower neighbour, and the place is past the middle.
+fn past_largest(frac: u32, expo: u32, x: u64) -> u64
     requires { ⌜ Fits frac expo ⌝ }
-    ensures { λ r. ⌜ r ≡ signed (format frac expo) (minus (format frac expo) x) (inf (format frac expo)) ⌝ }
+    ensures { λ r. ⌜ r ≡ signed (format frac expo) (minus (format frac expo) x) (chosen even (inf (format frac expo) - 1) 3) ⌝ }
 {
     let sign = is_negative(frac, expo, x);
-    with_sign(frac, expo, sign, pow(frac + expo) - pow(frac))
+    settled(frac, expo, sign, pow(frac + expo) - pow(frac) - 1, 3)
 }
 
-// A normal x whose significand is to lose its last k bits: the nearest of what is left, by the cut and the choice of the rounding step.
-pub fn fallen(frac: u32, expo: u32, x: u64, k: u32) -> u64
+// A normal x whose significand is to lose its last k bits: they go, and the rounding step settles it.
+fn fallen(frac: u32, expo: u32, x: u64, k: u32) -> u64
     requires { ⌜ Fits frac expo × (1 ≤ k) × (k ≤ 64) ⌝ }
     ensures { λ r. ⌜ r ≡ signed (format frac expo) (minus (format frac expo) x) (chosen even (fullOf (format frac expo) x / 2 ^ k) (part (fullOf (format frac expo) x % 2 ^ k) (2 ^ k))) ⌝ }
 {
     let c = shed(pow(frac) + fraction_field(frac, expo, x), k);
-    let m = nearest_even(c.kept, c.place);
-    with_sign(frac, expo, is_negative(frac, expo, x), m)
+    settled(frac, expo, is_negative(frac, expo, x), c.kept, c.place)
 }
 
 // A normal x times 2^n: the exponent field moves, or bits of the significand fall below the smallest unit, or the value is past the largest number.
-pub fn of_normal(frac: u32, expo: u32, x: u64, n: i32) -> u64
+fn of_normal(frac: u32, expo: u32, x: u64, n: i32) -> u64
     requires { ⌜ Fits frac expo × Pattern (format frac expo) x × Normal (format frac expo) x ⌝ }
     ensures { λ r. ⌜ r ≡ scalbnOf (format frac expo) x n ⌝ }
 {
@@ -75,11 +73,11 @@ pub fn of_normal(frac: u32, expo: u32, x: u64, n: i32) -> u64
     if field < pow(expo) - 1 {
         return with_field(frac, expo, x, field);
     }
-    infinity(frac, expo, x)
+    past_largest(frac, expo, x)
 }
 
 // A subnormal x times 2^n, or a zero: the significand is normalised in the rounding step.
-pub fn of_subnormal(frac: u32, expo: u32, x: u64, n: i32) -> u64
+fn of_subnormal(frac: u32, expo: u32, x: u64, n: i32) -> u64
     requires { ⌜ Fits frac expo × (field (format frac expo) x ≡ 0) ⌝ }
     ensures { λ r. ⌜ r ≡ scalbnOf (format frac expo) x n ⌝ }
 {

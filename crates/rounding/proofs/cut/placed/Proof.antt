@@ -1,9 +1,7 @@
 -- The four ways out are the four cases of where a cut stands (Places), and a format has four fields or more (Widths). Assumes nothing.
 use Prim.Native.Nat.{_+_, _-_}
-use mathlib.Core.Path.{ap, subst, sym}
 use native.Mathlib.Omega.{arith}
 use borrow.Author.Needs.{needs}
-use Rattle.rounding.specs.Place.{Stands}
 use Rattle.rounding.proofs.Widths.{four-fields}
 use Rattle.rounding.proofs.Places.{stands-nothing, stands-low, stands-over, stands-normal}
 use Rattle.rounding.proofs.cut.placed.Statement.{statement}

@@ -1,6 +1,5 @@
 -- A magnitude is below the sign bit, which is 2^63 at most, so that their sum does not wrap. Assumes nothing.
-use Prim.Native.Nat.{_+_, _^_}
-use mathlib.Core.Path.{_≡_, ap, _∙_}
+use Prim.Native.Nat.{_+_}
 use native.Mathlib.Omega.{arith}
 use lib.Pow.{pow-mono}
 use borrow.Author.Needs.{needs}

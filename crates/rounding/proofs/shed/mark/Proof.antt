@@ -1,5 +1,4 @@
 -- The two branches are those of the definition, by the same test on 0. Assumes nothing.
-use native.Mathlib.Omega.{arith}
 use borrow.Author.Tests.{eq-eqb, ne-eqb}
 use Rattle.rounding.proofs.shed.mark.Statement.{statement}
 use Rattle.rounding.proofs.shed.mark.Tie as tie

@@ -1,5 +1,4 @@
 -- The sum of a field and an n of 32 bits cannot wrap at 64, so that it is the integers' own (algebra: Integers). Assumes nothing.
-use Prim.Native.Nat.{_^_}
 use mathlib.Core.Path.{_≡_}
 use native.Mathlib.Omega.{arith}
 use borrow.Author.Needs.{needs}

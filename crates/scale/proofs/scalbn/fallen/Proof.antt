@@ -1,11 +1,8 @@
 -- The significand has room for the cut and the choice (rounding: Decoded, Parts), and what is left is below the sign bit (Scales). Assumes nothing.
-use Prim.Native.Nat.{ℕ, _+_, _/_, _%_, _^_, _<_}
+use Prim.Native.Nat.{_+_, _/_, _%_, _^_}
 use mathlib.Core.Path.{_≡_, ap, ap₂, _∙_}
 use native.Mathlib.Omega.{arith}
-use lib.Pow.{pow-pos}
 use borrow.Author.Needs.{needs}
-use Rattle.algebra.proofs.Products.{times-le}
-use Rattle.algebra.proofs.Quotients.{div-mod}
 use Rattle.ieee.specs.Format.{Format}
 use Rattle.ieee.specs.Pattern.{signed}
 use Rattle.ieee.specs.Round.{even}
@@ -42,31 +39,22 @@ add-shed c = let s = c .before .before in record { fits = omega (arith, full-is 
 shed-requires : tie.Need-shed-requires
 shed-requires c κs = search needs
 
-nearest-even-requires : tie.Need-nearest-even-requires
-nearest-even-requires c κs =
-    let s = c .before .before .before in
-    let S = fullOf (fmt s) (s .args .x) in
-    let d = 2 ^ s .args .k in
-    (omega (arith, cut-is c .0, div-mod S d (pow-pos (s .args .k)), times-le {a = 1} {b = d} (S / d) (pow-pos (s .args .k)), significand-room (s .pre .0) (s .args .x)), omega (arith, cut-is c .1, part-le (S % d) d))
-
 is-negative-requires : tie.Need-is-negative-requires
 is-negative-requires c κs = search needs
 
-with-sign-requires : tie.Need-with-sign-requires
-with-sign-requires c κs =
-    let m = c .before in
-    let s = m .before .before .before .before in
-    let h = ap (λ k. chosen even k (m .before .shed .result .place)) (cut-is (m .before) .0) in
-    (s .pre .0, omega (arith, m .nearest-even .ensures, h, fallen-room (s .pre .0) (s .args .x) (s .args .k) (m .before .shed .result .place) (s .pre .1)))
+settled-requires : tie.Need-settled-requires
+settled-requires c κs =
+    let d = c .before in
+    let s = d .before .before .before in
+    let q = 2 ^ s .args .k in
+    (s .pre .0, omega (arith, cut-is d .0, fallen-room (s .pre .0) (s .args .x) (s .args .k) (s .pre .1)), omega (arith, cut-is d .1, part-le (fullOf (fmt s) (s .args .x) % q) q))
 
 returns : tie.Need-returns
 returns c =
     let g = c .before in
-    let m = g .before in
-    let s = m .before .before .before .before in
-    let (a, b) = cut-is (m .before) in
-    c .with-sign .ensures ∙ ap₂ (signed (fmt s)) (g .is-negative .ensures) (m .nearest-even .ensures ∙ ap₂ (chosen even) a b)
+    let s = g .before .before .before .before in
+    let (a, b) = cut-is (g .before) in
+    c .settled .ensures ∙ ap₂ (signed (fmt s)) (g .is-negative .ensures) (ap₂ (chosen even) a b)
 
 pub fallen-spec : {M : Type 1} → statement M
-fallen-spec =
-    tie.close (tie.spec pow-requires fraction-field-requires add-shed shed-requires nearest-even-requires is-negative-requires with-sign-requires returns)
+fallen-spec = tie.close (tie.spec pow-requires fraction-field-requires add-shed shed-requires is-negative-requires settled-requires returns)

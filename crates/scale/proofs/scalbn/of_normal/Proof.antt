@@ -1,5 +1,4 @@
 -- The field ends below the normal ones, among them or past them (Exponents), and each is a case of the answer (Scales). Assumes nothing.
-use Prim.Native.Nat.{ℕ, _-_, _^_, _<_}
 use mathlib.Core.Path.{_≡_, sym, ap, _∙_}
 use native.Mathlib.Omega.{arith}
 use lib.IntN.{pos, _+ℤ_}
@@ -89,17 +88,17 @@ returns-2 c =
     c .with-field .ensures
     ∙ scalbn-moved (fmt s) (s .pre .0 .fair) (s .args .x) (s .args .n) (s .pre .2) (u .upper .result) (s .pre .1) (up-is (p .before)) (omega arith) (omega (arith, p .pow .ensures))
 
-infinity-requires : tie.Need-infinity-requires
-infinity-requires c κs = search needs
+past-largest-requires : tie.Need-past-largest-requires
+past-largest-requires c κs = search needs
 
 returns-3 : tie.Need-returns-3
 returns-3 c =
     let p = c .before .before in
     let u = p .before .before in
     let s = u .before .before .before in
-    c .infinity .ensures ∙ scalbn-over (fmt s) (s .pre .0 .fair) (s .args .x) (s .args .n) (s .pre .2) (u .upper .result) (up-is (p .before)) (omega (arith, p .pow .ensures))
+    c .past-largest .ensures ∙ scalbn-over (fmt s) (s .pre .0 .fair) (s .args .x) (s .args .n) (s .pre .2) (u .upper .result) (up-is (p .before)) (omega (arith, p .pow .ensures))
 
 pub of-normal-spec : {M : Type 1} → statement M
 of-normal-spec =
     tie.close
-    (tie.spec exponent-field-requires raised-requires upper-requires depth-requires fallen-requires returns pow-requires sub-if2 with-field-requires returns-2 infinity-requires returns-3)
+    (tie.spec exponent-field-requires raised-requires upper-requires depth-requires fallen-requires returns pow-requires sub-if2 with-field-requires returns-2 past-largest-requires returns-3)

@@ -1,5 +1,5 @@
 -- The field tells which row of the answer applies: 0, the last (Scales), or a normal number's between them (ieee: Fields). Assumes nothing.
-use mathlib.Core.Path.{_≡_, sym, _∙_}
+use mathlib.Core.Path.{sym, _∙_}
 use native.Mathlib.Omega.{arith}
 use mir.Facts.{toZ-ofZ}
 use Rattle.ieee.specs.Format.{b64}

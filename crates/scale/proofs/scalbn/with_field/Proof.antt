@@ -1,11 +1,11 @@
 -- What the old field counts is part of x, and what the new one makes of it fits in the word (Scales). Assumes nothing.
 use Prim.Native.Nat.{ℕ, _+_, _-_, _*_, _^_}
-use mathlib.Core.Path.{_≡_, ap₂, _∙_}
+use mathlib.Core.Path.{_≡_, ap₂}
 use native.Mathlib.Omega.{arith}
 use borrow.Author.Needs.{needs}
 use Rattle.ieee.specs.Pattern.{field}
 use Rattle.rounding.specs.Width.{format}
-use Rattle.scale.proofs.Scales.{field-below, field-room}
+use Rattle.scale.proofs.Scales.{field-below, moved-room}
 use Rattle.scale.proofs.scalbn.with_field.Statement.{statement}
 use Rattle.scale.proofs.scalbn.with_field.Tie as tie
 
@@ -32,10 +32,10 @@ sub-result : tie.Need-sub-result
 sub-result c = omega (arith, old-is c, field-below (c .before .before .pre .0) (x c) (c .before .before .pre .1))
 
 mul-result-2 : tie.Need-mul-result-2
-mul-result-2 c = record { fits = omega (arith, new-is c, field-room (c .before .before .pre .0) (x c) (c .before .before .args .to) (c .before .before .pre .1) (c .before .before .pre .2)) }
+mul-result-2 c = record { fits = omega (arith, new-is c, moved-room (c .before .before .pre .0) (x c) (c .before .before .args .to) (c .before .before .pre .1) (c .before .before .pre .2)) }
 
 add-result : tie.Need-add-result
-add-result c = record { fits = omega (arith, old-is c, new-is c, field-room (c .before .before .pre .0) (x c) (c .before .before .args .to) (c .before .before .pre .1) (c .before .before .pre .2)) }
+add-result c = record { fits = omega (arith, old-is c, new-is c, moved-room (c .before .before .pre .0) (x c) (c .before .before .args .to) (c .before .before .pre .1) (c .before .before .pre .2)) }
 
 returns : tie.Need-returns
 returns c = ap₂ (λ o n. x c - o + n) (old-is c) (new-is c)
