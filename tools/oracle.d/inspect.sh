@@ -27,8 +27,9 @@ inspect() {
 }
 
 refuse() { # WHAT HOW PATTERN
-    grep -nE "$2" "$3" "$work/listing" >"$work/found"
-    case $? in
+    status=0
+    grep -nE "$2" "$3" "$work/listing" >"$work/found" || status=$?
+    case $status in
     0) head -n 5 "$work/found" >&2; fail 1 "the oracle uses $1" ;;
     1) ;;
     *) fail 2 "the listing could not be searched" ;;
