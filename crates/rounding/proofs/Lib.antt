@@ -1,12 +1,4 @@
-pub mod Parts
-pub mod Halves
-pub mod Choices
-pub mod Cuts
-pub mod Stretched
 pub mod Scaled
-pub mod Widths
-pub mod Decoded
-pub mod Places
 pub mod Rounds
 pub mod Grid
 pub mod Marks

@@ -11,8 +11,8 @@ use Rattle.ieee.specs.Pattern.{signed}
 use Rattle.ieee.specs.Round.{Way, even, away, shorter, longer, ties-to-even, answer}
 use Rattle.ieee.specs.Scalbn.{scaled}
 use Rattle.ieee.proofs.Patterns.{inf-below-top}
-use Rattle.rounding.specs.Cut.{below, place, chosen, stretched}
-use Rattle.rounding.specs.Width.{format, Fits}
+use Rattle.cuts.specs.Cut.{below, place, chosen, stretched}
+use Rattle.fields.specs.Width.{format, Fits}
 use Rattle.rounding.proofs.Scaled.{answer-chosen}
 
 one-more : (b : Bool) (m : ℕ) → m + cond b 1 0 ≤ suc m

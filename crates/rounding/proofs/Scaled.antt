@@ -12,9 +12,9 @@ use Rattle.ieee.specs.Pattern.{signed}
 use Rattle.ieee.specs.Round.{Attribute, wayOf, rounded, answer}
 use Rattle.ieee.specs.Scalbn.{scaled}
 use Rattle.ieee.proofs.Exacts.{answer-of, sign-own}
-use Rattle.rounding.specs.Cut.{below, place, chosen, stretched}
-use Rattle.rounding.proofs.Choices.{choice-rounds}
-use Rattle.rounding.proofs.Stretched.{stretched-sound, stretched-alike}
+use Rattle.cuts.specs.Cut.{below, place, chosen, stretched}
+use Rattle.cuts.proofs.Choices.{choice-rounds}
+use Rattle.cuts.proofs.Stretched.{stretched-sound, stretched-alike}
 
 pub answer-scaled : (f : Format) (a : Attribute) (s : Bool) (u : ℕ) (n : ℤ) → answer f a s (scaled s u n) ≡ signed f s (rounded f (wayOf a s) (stretched u n))
 answer-scaled f a s u (pos n) = answer-of f a s s (u * 2 ^ n) 0 (sign-own s (u * 2 ^ n) 0)

@@ -12,9 +12,9 @@ use Rattle.ieee.specs.Exact.{Exact, ratio, root, Over, Under}
 use Rattle.ieee.specs.Round.{Way, rounded}
 use Rattle.ieee.proofs.Sides.{Sound, over-down, under-up, apart, over-not-under, under-not-over}
 use Rattle.ieee.proofs.Alike.{Beside}
-use Rattle.rounding.specs.Cut.{stretched}
+use Rattle.cuts.specs.Cut.{stretched}
 use Rattle.rounding.specs.Mark.{Marked, magnified}
-use Rattle.rounding.proofs.Stretched.{ratio-stretched}
+use Rattle.cuts.proofs.Stretched.{ratio-stretched}
 use Rattle.rounding.proofs.Grid.{alike-on-grid}
 
 -- ---- x times d compares with s times d as x with s

@@ -1,4 +1,1 @@
-pub mod Width
-pub mod Cut
-pub mod Place
 pub mod Mark

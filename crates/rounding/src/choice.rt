@@ -2,7 +2,7 @@
 ghost use mathlib.Core.Path.{_≡_};
 ghost use Prim.Native.Nat.{_≤_, _<_, _^_};
 ghost use Rattle.ieee.specs.Round.{even};
-ghost use Rattle.rounding.specs.Cut.{chosen};
+ghost use Rattle.cuts.specs.Cut.{chosen};
 
 // To the nearest; at the middle, to the even one.
 pub fn nearest_even(below: u64, place: u64) -> u64

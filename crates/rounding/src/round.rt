@@ -6,19 +6,11 @@ ghost use Rattle.ieee.specs.Format.{b64, b32, inf};
 ghost use Rattle.ieee.specs.Pattern.{signed};
 ghost use Rattle.ieee.specs.Round.{answer, even, ties-to-even};
 ghost use Rattle.ieee.specs.Scalbn.{scaled};
-ghost use Rattle.rounding.specs.Cut.{chosen};
-ghost use Rattle.rounding.specs.Width.{format, Fits};
+ghost use Rattle.cuts.specs.Cut.{chosen};
+ghost use Rattle.fields.specs.Width.{format, Fits};
 use crate::choice::nearest_even;
-use crate::cut::cut;
-use words::shift::pow;
-
-// A magnitude with its sign, as a pattern.
-pub fn with_sign(frac: u32, expo: u32, neg: bool, m: u64) -> u64
-    requires { ⌜ Fits frac expo × (m < 2 ^ (frac + expo)) ⌝ }
-    ensures { λ r. ⌜ r ≡ signed (format frac expo) neg m ⌝ }
-{
-    if neg { pow(frac + expo) + m } else { m }
-}
+use cuts::cut::cut;
+use fields::with_sign;
 
 // What a cut found, settled: the choice, and the sign. Every rounding ends here, overflow too, where the lower neighbour is the largest number.
 pub fn settled(frac: u32, expo: u32, neg: bool, below: u64, place: u64) -> u64

@@ -1,2 +1,1 @@
-pub mod Exponents
 pub mod Scales

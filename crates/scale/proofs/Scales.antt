@@ -25,16 +25,16 @@ use Rattle.ieee.proofs.Decide.{split, eqb-reads}
 use Rattle.ieee.proofs.Exacts.{sign-own, answer-held}
 use Rattle.ieee.proofs.Attributes.{answer-pattern}
 use Rattle.ieee.proofs.Scalbns.{clamp-alike}
-use Rattle.rounding.specs.Width.{format, Fits}
+use Rattle.fields.specs.Width.{format, Fits}
 use Rattle.rounding.proofs.Scaled.{scaled-alike, scaled-moves, answer-chosen}
-use Rattle.rounding.specs.Cut.{part, stretched, chosen}
-use Rattle.rounding.proofs.Cuts.{Lies, cut-over, cut-subnormal}
-use Rattle.rounding.proofs.Parts.{all-gone}
-use Rattle.rounding.proofs.Widths.{fields-small}
-use Rattle.rounding.proofs.Decoded.{units-subnormal, units-normal}
-use Rattle.scale.specs.Field.{movedTo, above, depthOf}
-use Rattle.scale.specs.Normal.{Normal, fullOf}
-use Rattle.scale.proofs.Exponents.{clamp-mag}
+use Rattle.cuts.specs.Cut.{part, stretched, chosen}
+use Rattle.cuts.proofs.Cuts.{Lies, cut-over, cut-subnormal}
+use Rattle.cuts.proofs.Parts.{all-gone}
+use Rattle.fields.proofs.Widths.{fields-small}
+use Rattle.fields.proofs.Decoded.{units-subnormal, units-normal}
+use Rattle.exponents.specs.Field.{above, depthOf}
+use Rattle.scale.specs.Normal.{Normal, fullOf, movedTo}
+use Rattle.exponents.proofs.Exponents.{clamp-mag}
 
 module _ (f : Format) (x : ℕ) (n : ℤ) where
   scalbn-infinite : field f x ≡ 2 ^ f .expo - 1 → fraction f x ≡ 0 → scalbnOf f x n ≡ x

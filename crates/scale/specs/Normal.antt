@@ -1,5 +1,6 @@
--- A normal number, by its exponent field, and its significand. Assumes nothing.
+-- A normal number, by its exponent field, its significand, and where its field moves. Assumes nothing.
 use Prim.Native.Nat.{ℕ, _+_, _-_, _^_, _<_}
+use lib.IntN.{ℤ, pos, _+ℤ_}
 use Rattle.ieee.specs.Format.{Format}
 use Rattle.ieee.specs.Pattern.{field, fraction}
 
@@ -10,3 +11,7 @@ pub record Normal (f : Format) (x : ℕ) : Type 0 where
 -- the fraction, under the bit that is not written
 abbrev pub fullOf : Format → ℕ → ℕ
 fullOf f x = 2 ^ f .frac + fraction f x
+
+-- the exponent field of x moved by n
+abbrev pub movedTo : Format → ℕ → ℤ → ℤ
+movedTo f x n = n +ℤ pos (field f x)

@@ -1,3 +1,2 @@
 // Scaling by a power of two.
-pub mod exponent;
 pub mod scalbn;

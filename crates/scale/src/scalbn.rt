@@ -7,20 +7,20 @@ ghost use Rattle.ieee.specs.Format.{b64, b32, inf, canonical};
 ghost use Rattle.ieee.specs.Pattern.{Pattern, minus, field, fraction, signed};
 ghost use Rattle.ieee.specs.Round.{even};
 ghost use Rattle.ieee.specs.Scalbn.{scalbnOf};
-ghost use Rattle.rounding.specs.Cut.{part, chosen};
-ghost use Rattle.rounding.specs.Width.{format, Fits};
+ghost use Rattle.cuts.specs.Cut.{part, chosen};
+ghost use Rattle.fields.specs.Width.{format, Fits};
 ghost use Rattle.scale.specs.Normal.{Normal, fullOf};
-use crate::exponent::depth;
-use crate::exponent::raised;
-use crate::exponent::upper;
-use crate::exponent::within;
-use rounding::decode::exponent_field;
-use rounding::decode::fraction_field;
-use rounding::decode::is_negative;
+use cuts::shed::shed;
+use exponents::depth;
+use exponents::raised;
+use exponents::upper;
+use exponents::within;
+use fields::exponent_field;
+use fields::fraction_field;
+use fields::is_negative;
 use rounding::round::round;
 use rounding::round::settled;
-use rounding::shed::shed;
-use words::shift::pow;
+use shift::pow;
 
 // An infinity as it is, and for a NaN the canonical one.
 fn special(frac: u32, expo: u32, x: u64) -> u64

@@ -17,7 +17,7 @@ use Rattle.ieee.proofs.Fields.{magnitude-fields, fraction-small, units-of-field
 use Rattle.ieee.proofs.Patterns.{signed-is, kind-finite, kind-infinite, kind-nan}
 use Rattle.ieee.proofs.Fixed.{fixed-whole}
 use Rattle.ieee.proofs.WholeParts.{whole-multiple, wholeIn-finite, nan-stays, infinity-stays}
-use Rattle.whole.specs.Point.{Point, none, all, part}
+use Rattle.point.specs.Point.{Point, none, all, part}
 use Rattle.whole.proofs.Scaled.{cut-after, cut-between, shorter-scaled}
 
 module _ (f : Format) (g : Fair f) where

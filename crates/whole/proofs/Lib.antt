@@ -1,4 +1,3 @@
 mod Scaled
 mod Cuts
 mod Method
-mod Statuses

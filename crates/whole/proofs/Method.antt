@@ -17,7 +17,7 @@ use Rattle.ieee.proofs.Fields.{magnitude-fields, fraction-small}
 use Rattle.ieee.proofs.Patterns.{inf-below-top, kind-finite}
 use Rattle.ieee.proofs.WholeParts.{zero-stays}
 use Rattle.ieee.proofs.Wholes.{longer-one}
-use Rattle.whole.specs.Point.{Point, none, all, part}
+use Rattle.point.specs.Point.{Point, none, all, part}
 use Rattle.whole.proofs.Scaled.{longer-scaled}
 use Rattle.whole.proofs.Cuts.{wholeIn-at, stays, units-one, below-one, far, part-bits, part-cut, shorter-cut}
 

@@ -2,12 +2,12 @@
 ghost use mathlib.Core.Path.{_≡_};
 ghost use Rattle.ieee.specs.Format.{b64, b32};
 ghost use Rattle.ieee.specs.Whole.{floorOf, floorStatus};
-use crate::point::point32;
-use crate::point::point64;
-use crate::status::status32;
-use crate::status::status64;
 use env::FpResult32;
 use env::FpResult64;
+use point::point::point32;
+use point::point::point64;
+use point::status::status32;
+use point::status::status64;
 
 pub fn floor64(x: u64) -> u64
     ensures { λ r. ⌜ r ≡ floorOf b64 x ⌝ }

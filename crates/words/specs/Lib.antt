@@ -1,2 +1,1 @@
 pub mod Value
-pub mod Estimates

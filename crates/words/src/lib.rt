@@ -1,8 +1,6 @@
 // Arithmetic on numbers of two words, and on the halves of a word, for a language whose widest integer has 64 bits.
-pub mod division;
 pub mod narrow;
 pub mod product;
-pub mod shift;
 pub mod sum;
 
 // The number hi * 2^64 + lo.

@@ -3,9 +3,9 @@ use mathlib.Core.Path.{_≡_}
 use native.Mathlib.Omega.{arith}
 use mir.Facts.{toZ-ofZ}
 use borrow.Author.Needs.{needs}
-use Rattle.rounding.specs.Cut.{below, place, stretched}
-use Rattle.rounding.specs.Width.{format}
-use Rattle.rounding.proofs.Choices.{below-finite, place-le}
+use Rattle.cuts.specs.Cut.{below, place, stretched}
+use Rattle.fields.specs.Width.{format}
+use Rattle.cuts.proofs.Choices.{below-finite, place-le}
 use Rattle.rounding.proofs.Rounds.{round-is}
 use Rattle.rounding.proofs.round.round.Statement.{statement}
 use Rattle.rounding.proofs.round.round.Tie as tie

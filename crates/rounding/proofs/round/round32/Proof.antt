@@ -6,7 +6,7 @@ use Rattle.ieee.specs.Round.{ties-to-even}
 use Rattle.ieee.specs.Scalbn.{scaled}
 use Rattle.ieee.proofs.Attributes.{answer-pattern}
 use Rattle.ieee.proofs.Formats.{fair32}
-use Rattle.rounding.proofs.Widths.{fits32}
+use Rattle.fields.proofs.Widths.{fits32}
 use Rattle.rounding.proofs.round.round32.Statement.{statement}
 use Rattle.rounding.proofs.round.round32.Tie as tie
 

@@ -1,6 +1,6 @@
 -- The step of every format that fits, at 64 bits (Widths). Assumes nothing.
 use mir.Facts.{toZ-ofZ}
-use Rattle.rounding.proofs.Widths.{fits64}
+use Rattle.fields.proofs.Widths.{fits64}
 use Rattle.rounding.proofs.round.round64.Statement.{statement}
 use Rattle.rounding.proofs.round.round64.Tie as tie
 

@@ -3,7 +3,7 @@ use mathlib.Core.Path.{ap, _∙_}
 use native.Mathlib.Omega.{arith}
 use Rattle.ieee.specs.Pattern.{signed}
 use Rattle.ieee.specs.Round.{even}
-use Rattle.rounding.specs.Width.{format}
+use Rattle.fields.specs.Width.{format}
 use Rattle.rounding.proofs.Rounds.{finite-in-word, chosen-in-word}
 use Rattle.rounding.proofs.round.settled.Statement.{statement}
 use Rattle.rounding.proofs.round.settled.Tie as tie

@@ -6,10 +6,10 @@ use borrow.Author.Needs.{needs}
 use Rattle.ieee.specs.Format.{Format}
 use Rattle.ieee.specs.Pattern.{signed}
 use Rattle.ieee.specs.Round.{even}
-use Rattle.rounding.specs.Cut.{part, chosen}
-use Rattle.rounding.specs.Width.{format}
-use Rattle.rounding.proofs.Decoded.{significand-room}
-use Rattle.rounding.proofs.Parts.{part-le}
+use Rattle.cuts.specs.Cut.{part, chosen}
+use Rattle.fields.specs.Width.{format}
+use Rattle.fields.proofs.Decoded.{significand-room}
+use Rattle.cuts.proofs.Parts.{part-le}
 use Rattle.scale.specs.Normal.{fullOf}
 use Rattle.scale.proofs.Scales.{fallen-room}
 use Rattle.scale.proofs.scalbn.fallen.Statement.{statement}

@@ -8,10 +8,11 @@ use mir.Val.{SFits}
 use mir.Facts.{toZ-ofZ}
 use borrow.Author.Needs.{needs}
 use Rattle.ieee.specs.Format.{Format}
-use Rattle.rounding.specs.Width.{format}
-use Rattle.rounding.proofs.Decoded.{field-in-word, significand-room}
-use Rattle.scale.specs.Field.{movedTo, above, depthOf}
-use Rattle.scale.proofs.Exponents.{depth-least, depth-most, above-is}
+use Rattle.fields.specs.Width.{format}
+use Rattle.fields.proofs.Decoded.{field-in-word, significand-room}
+use Rattle.exponents.specs.Field.{above, depthOf}
+use Rattle.scale.specs.Normal.{movedTo}
+use Rattle.exponents.proofs.Exponents.{depth-least, depth-most, above-is}
 use Rattle.scale.proofs.Scales.{scalbn-moved, scalbn-low, scalbn-over}
 use Rattle.scale.proofs.scalbn.of_normal.Statement.{statement}
 use Rattle.scale.proofs.scalbn.of_normal.Tie as tie

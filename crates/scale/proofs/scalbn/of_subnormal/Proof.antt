@@ -10,7 +10,7 @@ use Rattle.ieee.specs.Format.{Format}
 use Rattle.ieee.specs.Pattern.{minus, fraction}
 use Rattle.ieee.specs.Round.{ties-to-even, answer}
 use Rattle.ieee.specs.Scalbn.{scaled, clamp}
-use Rattle.rounding.specs.Width.{format}
+use Rattle.fields.specs.Width.{format}
 use Rattle.scale.proofs.Scales.{scalbn-subnormal, reach-in-word, near-small}
 use Rattle.scale.proofs.scalbn.of_subnormal.Statement.{statement}
 use Rattle.scale.proofs.scalbn.of_subnormal.Tie as tie

@@ -6,9 +6,9 @@ use borrow.Author.Needs.{needs}
 use Rattle.ieee.specs.Format.{inf}
 use Rattle.ieee.specs.Pattern.{signed}
 use Rattle.ieee.specs.Round.{even}
-use Rattle.rounding.specs.Cut.{chosen}
-use Rattle.rounding.specs.Width.{format}
-use Rattle.rounding.proofs.Choices.{inf-pos}
+use Rattle.cuts.specs.Cut.{chosen}
+use Rattle.fields.specs.Width.{format}
+use Rattle.cuts.proofs.Choices.{inf-pos}
 use Rattle.scale.proofs.Scales.{largest-is, largest-room}
 use Rattle.scale.proofs.scalbn.past_largest.Statement.{statement}
 use Rattle.scale.proofs.scalbn.past_largest.Tie as tie

@@ -7,7 +7,7 @@ use Rattle.ieee.specs.Format.{b32}
 use Rattle.ieee.specs.Scalbn.{scalbnOf}
 use Rattle.ieee.proofs.Fields.{field-small}
 use Rattle.ieee.proofs.Formats.{fair32}
-use Rattle.rounding.proofs.Widths.{fits32}
+use Rattle.fields.proofs.Widths.{fits32}
 use Rattle.scale.specs.Normal.{Normal}
 use Rattle.scale.proofs.Scales.{scalbn-special, scalbn-pattern}
 use Rattle.scale.proofs.scalbn.scalbn32.Statement.{statement}

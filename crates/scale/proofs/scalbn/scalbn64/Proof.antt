@@ -4,7 +4,7 @@ use native.Mathlib.Omega.{arith}
 use mir.Facts.{toZ-ofZ}
 use Rattle.ieee.specs.Format.{b64}
 use Rattle.ieee.proofs.Fields.{field-small}
-use Rattle.rounding.proofs.Widths.{fits64}
+use Rattle.fields.proofs.Widths.{fits64}
 use Rattle.scale.specs.Normal.{Normal}
 use Rattle.scale.proofs.Scales.{scalbn-special}
 use Rattle.scale.proofs.scalbn.scalbn64.Statement.{statement}

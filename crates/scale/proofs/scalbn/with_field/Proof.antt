@@ -4,7 +4,7 @@ use mathlib.Core.Path.{_≡_, ap₂}
 use native.Mathlib.Omega.{arith}
 use borrow.Author.Needs.{needs}
 use Rattle.ieee.specs.Pattern.{field}
-use Rattle.rounding.specs.Width.{format}
+use Rattle.fields.specs.Width.{format}
 use Rattle.scale.proofs.Scales.{field-below, moved-room}
 use Rattle.scale.proofs.scalbn.with_field.Statement.{statement}
 use Rattle.scale.proofs.scalbn.with_field.Tie as tie

@@ -2,7 +2,7 @@
 use native.Mathlib.Omega.{arith}
 use borrow.Author.Needs.{needs}
 use Rattle.ieee.specs.Format.{b64}
-use Rattle.whole.proofs.Statuses.{floor-status}
+use Rattle.point.proofs.Statuses.{floor-status}
 use Rattle.whole.proofs.floor.floor64_status.Statement.{statement}
 use Rattle.whole.proofs.floor.floor64_status.Tie as tie
 

@@ -2,7 +2,7 @@
 use native.Mathlib.Omega.{arith}
 use borrow.Author.Needs.{needs}
 use Rattle.ieee.specs.Format.{b32}
-use Rattle.whole.proofs.Statuses.{trunc-status}
+use Rattle.point.proofs.Statuses.{trunc-status}
 use Rattle.whole.proofs.trunc.trunc32_status.Statement.{statement}
 use Rattle.whole.proofs.trunc.trunc32_status.Tie as tie
 

@@ -1,0 +1,152 @@
+-- The choice: the magnitude below and the place above it decide the rounding, whatever the way. Assumes nothing.
+use Prim.Native.Nat.{ℕ, zero, suc, _+_, _-_, _*_, _%_, _^_, _≤_, _<_}
+use mathlib.Core.Path.{_≡_, refl, sym, ap, _∙_}
+use mathlib.Core.Bool.{Bool, true, false, not, cond}
+use native.Mathlib.Omega.{arith}
+use lib.Dec.{leb, ltb, eqb}
+use lib.Pow.{pow-pos, pow-mono}
+use Rattle.algebra.proofs.Products.{times-le}
+use Rattle.ieee.specs.Format.{Format, Fair, inf, units}
+use Rattle.ieee.specs.Exact.{Exact, Over, Under, over, under}
+use Rattle.ieee.specs.Round.{Way, even, away, shorter, longer, passes, rounded, middle}
+use Rattle.ieee.proofs.Decide.{Reads, so, not-so, is-true, is-false, alike, leb-reads}
+use Rattle.ieee.proofs.Sides.{Sound, over-reads, under-reads, over-zero, apart}
+use Rattle.ieee.proofs.Units.{units-rise, units-zero}
+use Rattle.ieee.proofs.Past.{Passes, Past, passes-reads, rounded-is, rounded-past, rounded-not-past, rounded-le}
+use Rattle.ieee.proofs.Local.{reached, not-yet}
+use Rattle.cuts.specs.Cut.{below, placeFrom, place, chosen}
+
+-- x is at least m, a finite magnitude, and below the next, if that is finite too
+pub record From (f : Format) (x : Exact) (m : ℕ) : Type 0 where
+  pub finite : m < inf f
+  pub low : Over x (2 * units f m)
+  pub high : suc m < inf f → Over x (2 * units f (suc m)) → ⊥
+
+pub inf-pos : (f : Format) → Fair f → 0 < inf f
+inf-pos f g =
+    let four : 2 ^ 2 ≤ 2 ^ f .expo = pow-mono (g .expo-two) in
+    let one : 1 ≤ 2 ^ f .expo - 1 = omega arith in
+    omega (arith, pow-pos (f .frac), times-le (2 ^ f .frac) one)
+
+-- such a magnitude is the one below x
+pub below-is : (f : Format) (x : Exact) → Sound x → (m : ℕ) → From f x m → below f x ≡ m
+unfolding below
+below-is f x s m b = rounded-is f shorter x s m (own m (b .finite) (b .low)) (λ p. b .high (strict (p .0) (p .1 .1)) (p .1 .0))
+  where
+    own : (m : ℕ) → m < inf f → Over x (2 * units f m) → Past f shorter x m
+    own zero l o = tt
+    own (suc j) l o = (omega arith, (o, omega arith))
+
+    strict : suc m ≤ inf f → (suc m ≡ inf f → ⊥) → suc m < inf f
+    strict l n = omega arith
+
+-- and the one below x is such
+pub below-from : (f : Format) → Fair f → (x : Exact) → From f x (below f x)
+unfolding below
+below-from f g x =
+    let p = rounded-past f shorter x in
+    record {
+      finite = finite (rounded f shorter x) p (rounded-le f shorter x);
+      low = low (rounded f shorter x) p;
+      high = λ l o. rounded-not-past f shorter x (omega arith, (o, omega arith));
+    }
+  where
+    finite : (m : ℕ) → Past f shorter x m → m ≤ inf f → m < inf f
+    finite zero p l = inf-pos f g
+    finite (suc j) p l = omega (arith, p .1 .1)
+
+    low : (m : ℕ) → Past f shorter x m → Over x (2 * units f m)
+    low zero p = rw units-zero (over-zero x)
+    low (suc j) p = p .1 .0
+
+pub below-finite : (f : Format) → Fair f → (x : Exact) → below f x < inf f
+below-finite f g x = below-from f g x .finite
+
+pub place-is : (f : Format) (x : Exact) (m : ℕ) → below f x ≡ m → place f x ≡ placeFrom f m x
+unfolding place
+place-is f x m e = ap (λ n. placeFrom f n x) e
+
+pub place-le : (f : Format) (x : Exact) → place f x ≤ 3
+place-le f x =
+    let m : ℕ = below f x in
+    rw (place-is f x m refl) (go (under x (2 * units f m)) (over x (middle f m)) (under x (middle f m)))
+  where
+    go : (a b c : Bool) → cond a 0 (cond b (cond c 2 3) 1) ≤ 3
+    go true b c = omega arith
+    go false true true = omega arith
+    go false true false = omega arith
+    go false false c = omega arith
+
+-- a test that picks m or the next, as a sum
+step : (m : ℕ) {s t : Bool} → s ≡ t → cond s (suc m) m ≡ m + cond t 1 0
+step m {s} {t} e = ap (λ (b : Bool). cond b (suc m) m) e ∙ go t
+  where
+    go : (t : Bool) → cond t (suc m) m ≡ m + cond t 1 0
+    go true = omega arith
+    go false = omega arith
+
+flip : (m : ℕ) (t : Bool) → m + cond (not t) 1 0 ≡ m + cond t 0 1
+flip m true = refl
+flip m false = refl
+
+-- one test decides: whether x is past the place between m and the next
+pub rounded-from : (f : Format) (w : Way) (x : Exact) → Sound x → (m : ℕ) → From f x m → rounded f w x ≡ cond (passes f w x m) (suc m) m
+rounded-from f w x s m b = go (passes-reads f w x m)
+  where
+    past-m : (m : ℕ) → m < inf f → Over x (2 * units f m) → Past f w x m
+    past-m zero l o = tt
+    past-m (suc j) l o = (omega arith, reached f w x s j l o)
+
+    go : {t : Bool} → Reads (Passes f w x m) t → rounded f w x ≡ cond t (suc m) m
+    go (so p) = rounded-is f w x s (suc m) (b .finite, p) (λ h. not-yet f w x (suc m) (b .high (h .0)) (h .1))
+    go (not-so n) = rounded-is f w x s m (past-m m (b .finite) (b .low)) (λ h. n (h .1))
+
+-- the place says how that test comes out
+module _ (f : Format) (x : Exact) (s : Sound x) (m : ℕ) (b : From f x m) where
+  -- m is below the middle
+  not-both : Under x (2 * units f m) → Over x (middle f m) → ⊥
+  not-both u o = apart x s (omega (arith, units-rise f m)) u o
+
+  even-by : {p q r : Bool} → Reads (Under x (2 * units f m)) p → Reads (Over x (middle f m)) q → Reads (Under x (middle f m)) r
+      → passes f even x m ≡ ltb 2 (cond p 0 (cond q (cond r 2 3) 1) + m % 2)
+  even-by (so u) o v = alike (passes-reads f even x m) (leb-reads 3 (0 + m % 2)) (λ h. absurd (not-both u (h .0)), λ h. absurd (omega arith))
+  even-by (not-so n) (so o) (so u) = alike (passes-reads f even x m) (leb-reads 3 (2 + m % 2)) (λ h. omega (arith, h .1 u), λ h. (o, λ v. omega arith))
+  even-by (not-so n) (so o) (not-so v) = alike (passes-reads f even x m) (leb-reads 3 (3 + m % 2)) (λ h. omega arith, λ h. (o, λ u. absurd (v u)))
+  even-by (not-so n) (not-so o) v = alike (passes-reads f even x m) (leb-reads 3 (1 + m % 2)) (λ h. absurd (o (h .0)), λ h. absurd (omega arith))
+
+  away-by : {p q r : Bool} → Reads (Under x (2 * units f m)) p → Reads (Over x (middle f m)) q → Reads (Under x (middle f m)) r
+      → passes f away x m ≡ leb 2 (cond p 0 (cond q (cond r 2 3) 1))
+  away-by (so u) o v = is-false (passes-reads f away x m) (not-both u)
+  away-by (not-so n) (so o) (so u) = is-true (passes-reads f away x m) o
+  away-by (not-so n) (so o) (not-so v) = is-true (passes-reads f away x m) o
+  away-by (not-so n) (not-so o) v = is-false (passes-reads f away x m) o
+
+  longer-by : {p q r : Bool} → Reads (Under x (2 * units f m)) p → Reads (Over x (middle f m)) q → Reads (Under x (middle f m)) r
+      → passes f longer x m ≡ not (eqb (cond p 0 (cond q (cond r 2 3) 1)) 0)
+  longer-by (so u) o v = is-false (passes-reads f longer x m) (λ h. h u)
+  longer-by (not-so n) (so o) (so u) = is-true (passes-reads f longer x m) n
+  longer-by (not-so n) (so o) (not-so v) = is-true (passes-reads f longer x m) n
+  longer-by (not-so n) (not-so o) v = is-true (passes-reads f longer x m) n
+
+  shorter-by : passes f shorter x m ≡ false
+  shorter-by = is-false (passes-reads f shorter x m) (λ h. b .high (omega (arith, b .finite, h .1)) (h .0))
+
+  at-m : Reads (Under x (2 * units f m)) (under x (2 * units f m))
+  at-m = under-reads x (2 * units f m)
+
+  at-least : Reads (Over x (middle f m)) (over x (middle f m))
+  at-least = over-reads x (middle f m)
+
+  at-most : Reads (Under x (middle f m)) (under x (middle f m))
+  at-most = under-reads x (middle f m)
+
+  chosen-from : (w : Way) → cond (passes f w x m) (suc m) m ≡ chosen w m (placeFrom f m x)
+  chosen-from even = step m (even-by at-m at-least at-most)
+  chosen-from away = step m (away-by at-m at-least at-most)
+  chosen-from shorter = ap (λ t. cond t (suc m) m) shorter-by
+  chosen-from longer = step m (longer-by at-m at-least at-most) ∙ flip m (eqb (placeFrom f m x) 0)
+
+pub choice-rounds : (f : Format) → Fair f → (w : Way) (x : Exact) → Sound x → rounded f w x ≡ chosen w (below f x) (place f x)
+choice-rounds f g w x s =
+    let b = below-from f g x in
+    rounded-from f w x s (below f x) b ∙ chosen-from f x s (below f x) b w ∙ ap (chosen w (below f x)) (sym (place-is f x (below f x) refl))

@@ -1,0 +1,102 @@
+// The cut: a significand and an exponent brought between two neighbours of the format.
+ghost use mathlib.Core.Path.{_≡_};
+ghost use Prim.Native.Nat.{_*_, _≤_, _<_, _^_};
+ghost use lib.IntN.{pos, _+ℤ_, _-ℤ_};
+ghost use lib.Signed.{mag};
+ghost use lib.Count.{leadingZeros};
+ghost use Rattle.cuts.specs.Cut.{below, place, stretched};
+ghost use Rattle.cuts.specs.Place.{Stands};
+ghost use Rattle.fields.specs.Width.{format, Fits};
+use crate::shed::shed;
+use shift::pow;
+
+// What exponents are counted from once they are normalised: -2^21, below all of them, so that what follows compares whole numbers.
+const LIFT: u32 = 2097152;
+
+pub struct Normal {
+    pub sig: u64,
+    pub at: u32,
+}
+
+// What is left to cut: k bits of sig, and the exponent field is up more.
+struct Step {
+    sig: u64,
+    up: u64,
+    k: u32,
+}
+
+pub struct Between {
+    pub below: u64,
+    pub place: u64,
+}
+
+// An exponent less the zeros before its significand, counted from -2^21.
+pub fn lifted(exp: i32, zeros: u32) -> u32
+    requires { ⌜ (mag exp ≤ 2 ^ 20) × (zeros ≤ 64) ⌝ }
+    ensures { λ r. ⌜ pos r ≡ exp -ℤ pos zeros +ℤ pos 2097152 ⌝ }
+{
+    (exp - zeros as i32 + 2097152) as u32
+}
+
+// The same value with the significand's first bit at the top of its word.
+pub fn normalised(sig: u64, exp: i32) -> Normal
+    requires { ⌜ (0 < sig) × (mag exp ≤ 2 ^ 20) ⌝ }
+    ensures { λ r. ⌜ (r .sig ≡ sig * 2 ^ leadingZeros 64 sig) × (pos (r .at) ≡ exp -ℤ pos (leadingZeros 64 sig) +ℤ pos 2097152) ⌝ }
+{
+    let zeros = u64::leading_zeros(sig);
+    Normal {
+        sig: sig << zeros,
+        at: lifted(exp, zeros),
+    }
+}
+
+// Below the least normal number k bits go, or all of them, and then they are less than half of a unit: one bit far down stands for them.
+// From there on the bits go that the format has no room for. Past the largest finite number that one is the lower neighbour, and the place is
+// beyond the middle, as for a significand of ones under the last exponent. No case has work of its own, so that none needs a jump.
+fn placed(frac: u32, expo: u32, sig: u64, at: u32) -> Step
+    requires { ⌜ Fits frac expo × (2 ^ 63 ≤ sig) × (at < 2 ^ 22) ⌝ }
+    ensures { λ r. ⌜ Stands frac expo sig at (r .sig) (r .up) (r .k) ⌝ }
+{
+    let extra = 63 - frac;
+    if at + extra < LIFT {
+        if at + 64 < LIFT {
+            return Step {
+                sig: 1,
+                up: 0,
+                k: 64,
+            };
+        }
+        return Step {
+            sig,
+            up: 0,
+            k: LIFT - at,
+        };
+    }
+    let up = (at + extra - LIFT) as u64;
+    let last = pow(expo) - 3;
+    if up > last {
+        return Step {
+            sig: u64::MAX,
+            up: last,
+            k: extra,
+        };
+    }
+    Step { sig, up, k: extra }
+}
+
+// sig times 2^exp smallest units of a format, between two neighbours: the lower, and the place of the value between them.
+pub fn cut(frac: u32, expo: u32, sig: u64, exp: i32) -> Between
+    requires { ⌜ Fits frac expo × (mag exp ≤ 2 ^ 20) ⌝ }
+    ensures { λ r. ⌜ (r .below ≡ below (format frac expo) (stretched sig exp)) × (r .place ≡ place (format frac expo) (stretched sig exp)) ⌝ }
+{
+    if sig == 0 {
+        return Between { below: 0, place: 0 };
+    }
+    let n = normalised(sig, exp);
+    let p = placed(frac, expo, n.sig, n.at);
+    let c = shed(p.sig, p.k);
+    Between {
+        below: p.up * pow(frac) + c.kept,
+        place: c.place,
+    }
+}

@@ -1,0 +1,20 @@
+-- `words::shift::above` meets its contract: its two shifts and k are a word together. Assumes nothing.
+use native.Mathlib.Omega.{arith}
+use Rattle.shift.proofs.Shifts.{above-by-shifts}
+use Rattle.shift.proofs.above.Statement.{statement}
+use Rattle.shift.proofs.above.Tie as tie
+
+sub-result : tie.Need-sub-result
+sub-result c = omega arith
+
+cast-result : tie.Need-cast-result
+cast-result c = omega arith
+
+shr-result : tie.Need-shr-result
+shr-result c = omega arith
+
+returns : tie.Need-returns
+returns c = above-by-shifts 64 (c .args .a) _ 1 (c .args .k) (omega arith)
+
+pub above-spec : {M : Type 1} → statement M
+above-spec = tie.close (tie.spec sub-result cast-result shr-result returns)
