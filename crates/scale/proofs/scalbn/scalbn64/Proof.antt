@@ -13,12 +13,6 @@ use Rattle.scale.proofs.scalbn.scalbn64.Tie as tie
 exponent-field-requires : tie.Need-exponent-field-requires
 exponent-field-requires c κs = fits64
 
-of-subnormal-requires : tie.Need-of-subnormal-requires
-of-subnormal-requires c κs = (fits64, sym (c .before .exponent-field .ensures) ∙ c .if1 .taken)
-
-returns : tie.Need-returns
-returns c = simp (toZ-ofZ, c .before .before .before .fits .n) at (c .of-subnormal .ensures)
-
 special-requires : tie.Need-special-requires
 special-requires c κs = fits64
 
@@ -27,6 +21,12 @@ returns-2 c =
     let e = c .before .before .before in
     let s = e .before in
     c .special .ensures ∙ scalbn-special b64 (s .args .x) (s .args .n) (sym (e .exponent-field .ensures) ∙ c .before .if2 .taken)
+
+of-subnormal-requires : tie.Need-of-subnormal-requires
+of-subnormal-requires c κs = (fits64, sym (c .before .exponent-field .ensures) ∙ c .if1 .taken)
+
+returns : tie.Need-returns
+returns c = simp (toZ-ofZ, c .before .before .before .fits .n) at (c .of-subnormal .ensures)
 
 normal-is : (c : tie.Else2) → Normal b64 (c .before .before .before .args .x)
 normal-is c =

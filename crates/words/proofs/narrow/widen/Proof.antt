@@ -1,0 +1,10 @@
+-- A wider word holds the number as it is. Assumes nothing.
+use borrow.Author.Needs.{needs}
+use Rattle.words.proofs.narrow.widen.Statement.{statement}
+use Rattle.words.proofs.narrow.widen.Tie as tie
+
+returns : tie.Need-returns
+returns c = search needs
+
+pub widen-spec : {M : Type 1} → statement M
+widen-spec = tie.close (tie.spec returns)
