@@ -13,15 +13,15 @@ use Rattle.algebra.proofs.Products.{times, mul-lt-cancel}
 use Rattle.algebra.proofs.Quotients.{div-mod, div-is}
 use Rattle.algebra.proofs.Integers.{up, dn, addZ, negZ, eqZ, leZ-fact, ltZ-fact, leZ-of, ltZ-of}
 use Rattle.ieee.specs.Format.{Format, Fair, low, inf, units}
-use Rattle.ieee.specs.Pattern.{Pattern, minus, magnitude, signed, nan, infinite, finite, kind, withSign, value}
+use Rattle.ieee.specs.Pattern.{Pattern, minus, magnitude, signed, Kind, nan, infinite, finite, kind, withSign, value}
 use Rattle.ieee.specs.Round.{longer, Attribute, toward-zero, toward-negative, wayOf}
 use Rattle.ieee.specs.Whole.{whole, wholeIn, truncOf, floorOf, wholeStatus, truncStatus, floorStatus}
 use Rattle.ieee.specs.Status.{OK, INEXACT}
 use Rattle.ieee.proofs.Units.{units-inj}
-use Rattle.ieee.proofs.Decide.{Reads, split, is-true, is-false, eqb-reads, and-reads, not-reads}
+use Rattle.ieee.proofs.Decide.{Reads, split, is-true, is-false, alike, eqb-reads, and-reads, not-reads}
 use Rattle.ieee.proofs.Patterns.{same-pattern, finite-is, value-is}
 use Rattle.ieee.proofs.Signs.{signed-times, value-tells}
-use Rattle.ieee.proofs.WholeParts.{sent-value, wholeIn-sent, wholeIn-none, nan-stays, infinity-stays, zero-stays}
+use Rattle.ieee.proofs.WholeParts.{whole-multiple, sent-value, wholeIn-sent, wholeIn-none, nan-stays, infinity-stays, zero-stays}
 
 -- r is x cut to a whole number of ones: |k| ≤ |x| < |k| + 1 with the sign kept, and nothing rounded
 pub record Truncated (f : Format) (x r : ℕ) : Type 0 where
@@ -204,3 +204,29 @@ pub record FloorRows (f : Format) : Type 0 where
 
 pub floor-rows : (f : Format) → Fair f → FloorRows f
 floor-rows f g = record { rows = floor-whole-rows f; above-zero = floor-above-zero f; below-zero = floor-below-zero f g }
+
+-- ---- a number that stays under one attribute is whole, and stays under every other; so trunc and floor have one status
+module _ (f : Format) (g : Fair f) (a b : Attribute) (x : ℕ) (p : Pattern f x) where
+  stays-by : (k : Kind) → kind f x ≡ k → wholeIn f a x ≡ x → wholeIn f b x ≡ x
+  stays-by nan h e = nan-stays f b x h
+  stays-by infinite h e = infinity-stays f b x h
+  stays-by (finite u) h e =
+      let s = wholeIn-sent f a g x u h in
+      let t = wholeIn-sent f b g x u h in
+      let n = units f (magnitude f x) in
+      let d = 2 ^ low f in
+      let k = whole (wayOf a (minus f x)) n d in
+      let c : n ≡ k * d = ap (λ r. units f (magnitude f r)) (sym e) ∙ s .counts in
+      let w : whole (wayOf b (minus f x)) n d ≡ k = ap (λ m. whole (wayOf b (minus f x)) m d) c ∙ whole-multiple (wayOf b (minus f x)) k d (pow-pos (low f)) in
+      let u = units-inj f (magnitude f (wholeIn f b x)) (magnitude f x) (t .counts ∙ times d w ∙ sym c) in
+      same-pattern f (wholeIn f b x) x (t .pattern) p (t .sign) u
+
+  pub stays-alike : wholeIn f a x ≡ x → wholeIn f b x ≡ x
+  stays-alike e = stays-by (kind f x) refl e
+
+pub statuses-alike : (f : Format) → Fair f → (x : ℕ) → Pattern f x → floorStatus f x ≡ truncStatus f x
+unfolding floorOf truncOf floorStatus truncStatus
+statuses-alike f g x p =
+    ap (λ s. cond (not s && not (eqb (x % 2 ^ f .frac) 0)) INEXACT OK)
+    (alike (eqb-reads (wholeIn f toward-negative x) x) (eqb-reads (wholeIn f toward-zero x) x)
+    (stays-alike f g toward-negative toward-zero x p, stays-alike f g toward-zero toward-negative x p))
