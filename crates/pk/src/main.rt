@@ -86,7 +86,7 @@ fn end_line(s: State, line: &[u8; 128], out: &mut [u8; 65536]) -> State {
     let used = t.used;
     let number = std::num::wrapping_add_u64(t.ended, 1);
     if held > 0 {
-        let reply = requests::write_reply(
+        let reply = replies::write_reply(
             out,
             used,
             lines::part(line, 0, held),

@@ -62,7 +62,7 @@ fn compare(mut s: State, line: &[u8; 128], counts: &mut [u64; 64], wrong: &mut [
     let held = kept.held;
     let number = s.ended;
     let mut out = [0u8; 1024];
-    let reply = requests::write_reply(
+    let reply = replies::write_reply(
         &mut out,
         0,
         lines::part(line, 0, held),
@@ -192,7 +192,7 @@ fn tell_counts(counts: &[u64; 64], wrong: &[u64; 64]) {
     let mut op = 0;
     while op < 64 {
         let mut name = [0u8; 8];
-        let end = requests::write_name(&mut name, 0, op);
+        let end = operations::write_name(&mut name, 0, op);
         if end == 0 {
             return;
         }

@@ -1,5 +1,5 @@
-// The operations. To add one, add its row to `row_of` and its call to `answer_of`, under the next number, and its line to the table below, which
-// `./pk --help` prints.
+// The operations: their names, what they take and what they give. To add one, add its row to `row_of` and its call to `answer_of`
+// (crates/replies/src/call.rt), under the next number, and its line to the table below, which `./pk --help` prints.
 //
 //   floor64 X       floor64 c004000000000000          the greatest whole number that is not above X
 //   floor32 X       floor32 bf000000
@@ -7,6 +7,10 @@
 //   trunc32 X       trunc32 40200000
 //   scalbn64 X N    scalbn64 3ff8000000000000 -1075   X times 2^N, rounded once
 //   scalbn32 X N    scalbn32 3f800000 128
+use lines::Fault;
+use lines::find;
+use lines::part;
+use lines::write_bytes;
 
 // How an operand is written; `Nothing` stands where there is none.
 pub enum Kind {
@@ -42,6 +46,19 @@ pub enum Answer {
     Nothing,
 }
 
+// Why a line is no request. An operand is named by its place from 1 on, with how it is to be written.
+pub enum Complaint {
+    TooLong,
+    CarriageReturn,
+    Blank,
+    Operation,
+    Missing(Kind, u64),
+    // The operands that there should have been.
+    Extra(u64),
+    // And how many characters it has.
+    Operand(Fault, Kind, u64, usize),
+}
+
 // More than the number of the last operation.
 pub const ROWS: usize = 64;
 
@@ -58,18 +75,6 @@ pub fn row_of(op: usize) -> Row {
     }
 }
 
-pub fn answer_of(op: usize, a: Operands) -> Answer {
-    match op {
-        0 => status64(paskerotim::floor64_status(a.x)),
-        1 => status32(paskerotim::floor32_status(low(a.x))),
-        2 => status64(paskerotim::trunc64_status(a.x)),
-        3 => status32(paskerotim::trunc32_status(low(a.x))),
-        4 => word64(paskerotim::scalbn64(a.x, a.n)),
-        5 => word32(paskerotim::scalbn32(low(a.x), a.n)),
-        _ => Answer::Nothing,
-    }
-}
-
 fn named(name: &[u8; 8], x: Kind, y: Kind, z: Kind) -> Row {
     Row {
         name: *name,
@@ -79,23 +84,27 @@ fn named(name: &[u8; 8], x: Kind, y: Kind, z: Kind) -> Row {
     }
 }
 
-// A word of 32 bits, or a number of the range of one. It was read from eight digits, or within the range, so that nothing is lost.
-fn low(x: u64) -> u32 {
-    (x % 4294967296) as u32
+// The name of an operation.
+pub fn write_name(out: &mut [u8], at: usize, op: usize) -> usize {
+    let row = row_of(op);
+    let name = row.name;
+    let size = find(&name, 0, b' ');
+    write_bytes(out, at, part(&name, 0, size))
 }
 
-fn word64(r: u64) -> Answer {
-    Answer::Word(r, 16)
-}
-
-fn word32(r: u32) -> Answer {
-    Answer::Word(r as u64, 8)
-}
-
-fn status64(r: paskerotim::FpResult64) -> Answer {
-    Answer::WithStatus(r.val, 16, r.status)
-}
-
-fn status32(r: paskerotim::FpResult32) -> Answer {
-    Answer::WithStatus(r.val as u64, 8, r.status)
+// The names of all operations, each after a blank.
+pub fn write_names(out: &mut [u8], at: usize) -> usize {
+    let mut end = at;
+    let mut op = 0;
+    while op < ROWS {
+        let row = row_of(op);
+        let name = row.name;
+        if name[0] == b' ' {
+            return end;
+        }
+        end = write_bytes(out, end, b" ");
+        end = write_name(out, end, op);
+        op += 1;
+    }
+    end
 }

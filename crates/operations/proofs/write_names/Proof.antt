@@ -1,10 +1,10 @@
--- `requests::reply::write_names` is safe and ends. The measure is the number of rows that are left. Assumes nothing.
+-- `operations::write_names` is safe and ends. The measure is the number of rows that are left. Assumes nothing.
 use mathlib.Core.Path.{_≡_}
 use Prim.Native.Nat.{_-_}
 use lib.ListN.{length}
 use borrow.Author.Needs.{needs}
-use Rattle.requests.proofs.reply.write_names.Statement.{statement}
-use Rattle.requests.proofs.reply.write_names.Tie as tie
+use Rattle.operations.proofs.write_names.Statement.{statement}
+use Rattle.operations.proofs.write_names.Tie as tie
 
 abbrev Inv-loop : tie.InvT-loop
 Inv-loop out₀ at end₀ op₀ t7 out end op = length out ≡ length out₀

@@ -1,8 +1,8 @@
--- `requests::request::find_operation` is safe and ends. The measure is the number of rows that are left. Assumes nothing.
+-- `requests::find_operation` is safe and ends. The measure is the number of rows that are left. Assumes nothing.
 use Prim.Native.Nat.{_-_}
 use borrow.Author.Needs.{needs}
-use Rattle.requests.proofs.request.find_operation.Statement.{statement}
-use Rattle.requests.proofs.request.find_operation.Tie as tie
+use Rattle.requests.proofs.find_operation.Statement.{statement}
+use Rattle.requests.proofs.find_operation.Tie as tie
 
 abbrev Inv-loop : tie.InvT-loop
 Inv-loop s op₀ op = Unit {0}
