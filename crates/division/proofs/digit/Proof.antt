@@ -1,4 +1,4 @@
--- `words::division::digit` meets its contract: the first estimate is at most two too large, two steps bring it to the digit, and what that leaves is one word.
+-- `division::digit` meets its contract: the first estimate is at most two too large, two steps bring it to the digit, and what that leaves is one word.
 -- Assumes nothing.
 use mathlib.Core.Path.{_≡_, refl, ap, _∙_}
 use Prim.Native.Nat.{ℕ, _+_, _*_, _/_, _%_, _-_, _≤_, max}

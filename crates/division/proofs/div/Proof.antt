@@ -1,4 +1,4 @@
--- `words::division::div` meets its contract: two digits of the scaled numbers' quotient are that of the numbers themselves. Assumes nothing.
+-- `division::div` meets its contract: two digits of the scaled numbers' quotient are that of the numbers themselves. Assumes nothing.
 use mathlib.Core.Path.{_≡_}
 use Prim.Native.Nat.{ℕ, _*_, _/_, _%_, _^_, _≤_, _<_}
 use native.Mathlib.Nat.{mod-lt}

@@ -1,4 +1,4 @@
--- `words::division::nearer` meets its contract: the comparison tells whether the digit is too large, and is left out where it cannot be. Assumes nothing.
+-- `division::nearer` meets its contract: the comparison tells whether the digit is too large, and is left out where it cannot be. Assumes nothing.
 use mathlib.Core.Path.{_≡_, refl}
 use Prim.Native.Nat.{ℕ, _+_, _*_, _/_, _%_, _-_, _≤_, _<_, max}
 use native.Mathlib.Omega.{arith, both-ways}

@@ -1,4 +1,4 @@
--- `words::division::normal_shift` meets its contract: a number moved up by its leading zeros fills its word. Assumes nothing.
+-- `division::normal_shift` meets its contract: a number moved up by its leading zeros fills its word. Assumes nothing.
 use native.Mathlib.Omega.{arith}
 use Rattle.algebra.proofs.Leading.{leading-fills}
 use Rattle.division.proofs.normal_shift.Statement.{statement}

@@ -1,4 +1,4 @@
--- `words::division::rem` meets its contract: the remainder of the upper word takes its place. Assumes nothing.
+-- `division::rem` meets its contract: the remainder of the upper word takes its place. Assumes nothing.
 use Prim.Native.Nat.{_^_}
 use native.Mathlib.Nat.{mod-lt}
 use native.Mathlib.Omega.{arith}

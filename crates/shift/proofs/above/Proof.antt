@@ -1,4 +1,4 @@
--- `words::shift::above` meets its contract: its two shifts and k are a word together. Assumes nothing.
+-- `shift::above` meets its contract: its two shifts and k are a word together. Assumes nothing.
 use native.Mathlib.Omega.{arith}
 use Rattle.shift.proofs.Shifts.{above-by-shifts}
 use Rattle.shift.proofs.above.Statement.{statement}

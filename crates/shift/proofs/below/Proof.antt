@@ -1,4 +1,4 @@
--- `words::shift::below` meets its contract: its two shifts and k are a word together. Assumes nothing.
+-- `shift::below` meets its contract: its two shifts and k are a word together. Assumes nothing.
 use Prim.Native.Nat.{_-_, _^_}
 use native.Mathlib.Omega.{arith}
 use Rattle.shift.proofs.Shifts.{below-by-shifts}

@@ -1,4 +1,4 @@
--- `words::shift::low` meets its contract: the divisor is a power of two. Assumes nothing.
+-- `shift::low` meets its contract: the divisor is a power of two. Assumes nothing.
 use mathlib.Core.Path.{_≡_, ap}
 use Prim.Native.Nat.{_%_, _^_}
 use native.Mathlib.Omega.{arith}

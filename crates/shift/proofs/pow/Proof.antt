@@ -1,4 +1,4 @@
--- `words::shift::pow` meets its contract: a power below 2^64 does not wrap. Assumes nothing.
+-- `shift::pow` meets its contract: a power below 2^64 does not wrap. Assumes nothing.
 use native.Mathlib.Omega.{arith}
 use borrow.Author.Needs.{needs}
 use lib.Pow.{pow-lt}

@@ -1,4 +1,4 @@
--- `words::shift::shl` meets its contract: by a word or more the low word becomes the high one, by less the high word takes what passes the low one.
+-- `shift::shl` meets its contract: by a word or more the low word becomes the high one, by less the high word takes what passes the low one.
 -- Assumes nothing.
 use Prim.Native.Nat.{ℕ, _-_, _^_}
 use native.Mathlib.Omega.{arith}

@@ -1,4 +1,4 @@
--- `words::shift::shr` meets its contract: by a word or more the high word becomes the low one and the whole low word leaves, by less the low word takes
+-- `shift::shr` meets its contract: by a word or more the high word becomes the low one and the whole low word leaves, by less the low word takes
 -- what falls below the high one. Assumes nothing.
 use mathlib.Core.Path.{_≡_, sym, ap, _∙_}
 use Prim.Native.Nat.{ℕ, _+_, _*_, _/_, _%_, _-_, _^_, _<_}

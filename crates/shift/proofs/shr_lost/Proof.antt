@@ -1,4 +1,4 @@
--- `words::shift::shr_lost` meets its contract: by a word or more the whole number leaves, and by less its rest. Assumes nothing.
+-- `shift::shr_lost` meets its contract: by a word or more the whole number leaves, and by less its rest. Assumes nothing.
 use mathlib.Core.Path.{_≡_, refl, sym, ap}
 use Prim.Native.Nat.{ℕ, _%_, _^_}
 use native.Mathlib.Omega.{arith}

@@ -1,4 +1,4 @@
--- What the filled word gives is the neighbour and the place (Places), and a zero is its own (Stretched); all of it fits (Widths). Assumes nothing.
+-- What the filled word gives is the neighbour and the place (Places), and a zero is its own (Stretched); all of it fits (fields: Widths). Assumes nothing.
 use Prim.Native.Nat.{_+_, _*_, _/_, _^_, _<_}
 use mathlib.Core.Path.{sym, ap₂, _∙_, subst}
 use native.Mathlib.Omega.{arith}

@@ -1,4 +1,4 @@
--- The four ways out are the four cases of where a cut stands (Places), and a format has four fields or more (Widths). Assumes nothing.
+-- The four ways out are the four cases of where a cut stands (Places), and a format has four fields or more (fields: Widths). Assumes nothing.
 use Prim.Native.Nat.{_+_, _-_}
 use native.Mathlib.Omega.{arith}
 use borrow.Author.Needs.{needs}

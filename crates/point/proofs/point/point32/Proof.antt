@@ -1,4 +1,4 @@
--- `whole::point::point32` meets its contract: its three answers are the three cases of `Point`. Assumes nothing.
+-- `point::point::point32` meets its contract: its three answers are the three cases of `Point`. Assumes nothing.
 use native.Mathlib.Omega.{arith}
 use borrow.Author.Needs.{needs}
 use Rattle.point.specs.Point.{none, all, part}

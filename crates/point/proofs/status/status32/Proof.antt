@@ -1,4 +1,4 @@
--- `whole::status::status32` meets its contract. Assumes nothing.
+-- `point::status::status32` meets its contract. Assumes nothing.
 use native.Mathlib.Omega.{arith}
 use Rattle.ieee.specs.Format.{b32}
 use Rattle.point.proofs.Statuses.{same-ok, no-fraction-ok, changed-inexact}

@@ -1,4 +1,4 @@
--- `whole::status::status64` meets its contract. Assumes nothing.
+-- `point::status::status64` meets its contract. Assumes nothing.
 use native.Mathlib.Omega.{arith}
 use Rattle.ieee.specs.Format.{b64}
 use Rattle.point.proofs.Statuses.{same-ok, no-fraction-ok, changed-inexact}

@@ -1,4 +1,4 @@
--- The cut, the choice and the sign make the answer and stay in the word (Rounds); a place is 3 at most (Choices). Assumes nothing.
+-- The cut, the choice and the sign make the answer and stay in the word (Rounds); a place is 3 at most (cuts: Choices). Assumes nothing.
 use mathlib.Core.Path.{_≡_}
 use native.Mathlib.Omega.{arith}
 use mir.Facts.{toZ-ofZ}

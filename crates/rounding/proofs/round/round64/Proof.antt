@@ -1,4 +1,4 @@
--- The step of every format that fits, at 64 bits (Widths). Assumes nothing.
+-- The step of every format that fits, at 64 bits (fields: Widths). Assumes nothing.
 use mir.Facts.{toZ-ofZ}
 use Rattle.fields.proofs.Widths.{fits64}
 use Rattle.rounding.proofs.round.round64.Statement.{statement}
