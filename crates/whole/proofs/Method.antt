@@ -29,6 +29,12 @@ fill f x k = x / top f * 2 ^ k % (2 * top f) - x / top f
 abbrev pub Outside : Format → ℕ → Type 0
 Outside f x = top f < x → top f + bias f * 2 ^ f .frac ≤ x
 
+-- floor as the code computes it: the sign shifted is at least the sign, the sum fits, and the cut is the answer
+pub record Floors (f : Format) (x k : ℕ) : Type 0 where
+  pub least : x / top f ≤ x / top f * 2 ^ k % (2 * top f)
+  pub fits : x + fill f x k < 2 * top f
+  pub cut : (x + fill f x k) / 2 ^ k * 2 ^ k % (2 * top f) ≡ floorOf f x
+
 -- the point of x, where the code asked for that of y
 pub point-at : {f : Format} {y k : ℕ} (x : ℕ) → y ≡ x → Point f y k → Point f x k
 point-at x e p = rw (sym e) p
@@ -113,15 +119,13 @@ module _ (f : Format) (g : Fair f) where
       (λ l. rw (fill-minus x k p e l) (minus-cut x k p l o e))
       (λ l. rw (fill-plus x k p e l) (omega arith, plus-cut x k p e l))
 
-  -- as the code computes it: the sign shifted is at least the sign, the sum fits, and the cut is the answer
-  pub fill-least : (x k : ℕ) → Pattern f x → Point f x k → x / top f ≤ x / top f * 2 ^ k % (2 * top f)
+  fill-least : (x k : ℕ) → Pattern f x → Point f x k → x / top f ≤ x / top f * 2 ^ k % (2 * top f)
   fill-least x k p e = omega (arith, sign-shifted x k p e, times-le (x / top f) (pow-pos k))
 
-  pub fill-fits : (x k : ℕ) → Pattern f x → Outside f x → Point f x k → x + fill f x k < 2 * top f
-  fill-fits x k p o e = fill-cut x k p o e .0
-
-  pub floor-cut : (x k : ℕ) → Pattern f x → Outside f x → Point f x k → (x + fill f x k) / 2 ^ k * 2 ^ k % (2 * top f) ≡ floorOf f x
-  floor-cut x k p o e = let (l, c) = fill-cut x k p o e in cut-fits (x + fill f x k) k l ∙ sym c
+  pub floor-cut : (x k : ℕ) → Pattern f x → Outside f x → Point f x k → Floors f x k
+  floor-cut x k p o e =
+      let (l, c) = fill-cut x k p o e in
+      record { least = fill-least x k p e; fits = l; cut = cut-fits (x + fill f x k) k l ∙ sym c }
 
   -- between -1 and -0
   one-below-infinity : bias f * 2 ^ f .frac < inf f
