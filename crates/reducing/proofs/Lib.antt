@@ -1,0 +1,4 @@
+-- A reducer for the divisor n keeps what is left as a product, over words of any width.
+pub mod Bounds
+pub mod Steps
+pub mod Widths

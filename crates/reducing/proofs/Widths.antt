@@ -1,0 +1,112 @@
+-- The reducer over words of w bits: what each of its functions is asked, and gives. Assumes nothing.
+use Prim.Native.Nat.{ℕ, _+_, _-_, _*_, _/_, _%_, _^_, _≤_, _<_}
+use mathlib.Core.Path.{_≡_, refl, sym, ap, _∙_, subst}
+use native.Mathlib.Omega.{arith}
+use native.Mathlib.Nat.{mod-lt}
+use lib.Pow.{pow-add, pow-pos, pow-mono}
+use Rattle.algebra.proofs.Products.{times}
+use Rattle.algebra.proofs.Powers.{pow-diff}
+use Rattle.algebra.proofs.Quotients.{div-mod, div-is}
+use Rattle.reducing.specs.Reducer.{half, Holds, heldOf, Reduces, Stepped}
+use Rattle.reducing.proofs.Bounds.{Kept, whole-passes-word, product-room, upper-room, upper-gives-held}
+use Rattle.reducing.proofs.Steps.{Started, started, Next, next, Word, word-step}
+
+-- ---- the powers of two, by half a word's range
+module _ {w : ℕ} (l : 3 ≤ w) where
+  abbrev s : ℕ
+  s = 2 ^ (w - 1)
+
+  word-is : 2 ^ w ≡ 2 * s
+  word-is = omega (arith, pow-diff {a = w} {b = 1} (omega arith))
+
+  half-is : half w ≡ 2 * (s * s)
+  unfolding half
+  half-is = ap (λ i. 2 ^ i) (omega arith) ∙ pow-add 2 1 ((w - 1) + (w - 1)) ∙ ap (λ t. 2 * t) (pow-add 2 (w - 1) (w - 1))
+
+  quarter-is : 2 ^ (w - 2) * 2 ≡ s
+  quarter-is = ap (λ i. 2 ^ i * 2) (omega arith) ∙ pow-diff {a = w - 1} {b = 1} (omega arith)
+
+  eighth-is : 2 ^ (w - 3) * 4 ≡ s
+  eighth-is = ap (λ i. 2 ^ i * 4) (omega arith) ∙ pow-diff {a = w - 1} {b = 2} (omega arith)
+
+  -- ---- to plain numbers, and back
+  kept-of : {n x m r t : ℕ} → Holds w n x m r t → Kept s n x (half w / m) r t
+  kept-of {n} {x} {m} {r} {t} h =
+      record {
+        above = omega (arith, h .above, eighth-is);
+        below = omega (arith, h .below, quarter-is);
+        small = h .small;
+        whole = omega (arith, d, h .rest, h .twice, times (half w / m) (h .twice), half-is);
+        rest = omega (arith, d, h .rest, h .twice);
+        product = omega (arith, h .product);
+      }
+    where
+      d : (half w / m * m + half w % m ≡ half w) × (half w % m < m)
+      d = div-mod (half w) m (omega (arith, h .twice, h .above))
+
+  holds-of : {n x m r t : ℕ} → m ≡ 2 * n → r ≡ half w % m → Kept s n x (half w / m) r t → Holds w n x m r t
+  holds-of e d k =
+      record {
+        above = omega (arith, k .above, eighth-is);
+        below = omega (arith, k .below, quarter-is);
+        small = k .small;
+        twice = e;
+        rest = d;
+        product = omega (arith, k .product);
+      }
+
+  -- what is held is x
+  held-is : {n x m r t : ℕ} → Holds w n x m r t → heldOf w m t ≡ x
+  held-is {n} {x} {m} {r} {t} h =
+      div-is t (2 * (half w / m)) x 0 (omega (arith, whole-passes-word (kept-of h))) (omega (arith, h .product)) .0
+
+  -- ---- `new`: f and r are the quotient and the remainder of R (R / 2 - m) by m
+  module _ (n x f r : ℕ) (a : 2 ^ (w - 3) < n) (b : n < 2 ^ (w - 2)) (h : x < 2 * n) (e : f * (2 * n) + r ≡ (s - 2 * n) * 2 ^ w) (d : r < 2 * n) where
+    z : Started s n x f r
+    z = started s n x f r (omega (arith, a, eighth-is)) (omega (arith, b, quarter-is)) h (omega (arith, e, times (s - 2 * n) word-is)) d
+
+    pub start-room : 2 * x * 2 ^ w + 2 * x * f < 2 ^ w * 2 ^ w
+    start-room = omega (arith, product-room (z .kept), times (2 * x) word-is, times (2 ^ w) word-is, times (2 * s) word-is)
+
+    pub start-holds : Holds w n x (2 * n) r (2 * x * 2 ^ w + 2 * x * f)
+    start-holds =
+        holds-of refl (sym (z .rest-is) ∙ ap (λ i. i % (2 * n)) (sym half-is))
+        (subst (λ q. Kept s n x q r (2 * x * 2 ^ w + 2 * x * f)) (sym (z .whole-is) ∙ ap (λ i. i / (2 * n)) (sym half-is))
+        (subst (Kept s n x (2 * s + f) r) (omega (arith, times (2 * x) word-is)) (z .kept)))
+
+  -- ---- `partial_remainder`
+  module _ {m r t : ℕ} (h : Reduces w m r t) where
+    k : Kept s (m / 2) (heldOf w m t) (half w / m) r t
+    k = kept-of h
+
+    pub upper-leaves-room : (u v : ℕ) → u * 2 ^ w + v ≡ t → u + 2 < 2 ^ w
+    upper-leaves-room u v e = omega (arith, upper-room k u v (omega (arith, e, times u word-is)), word-is)
+
+    pub held-by-upper : (u v : ℕ) → u * 2 ^ w + v ≡ t → v < 2 ^ w → m * (u + 2) / 2 ^ w ≡ heldOf w m t
+    held-by-upper u v e l = (λ i. h .twice i * (u + 2) / word-is i) ∙ upper-gives-held k u v (omega (arith, e, times u word-is)) (omega (arith, l, word-is))
+
+    -- ---- `shift_reduce` and `word_reduce`
+    step : (i a b : ℕ) → i < w → a * half w + b ≡ t * 2 ^ i → b < half w → Next s (m / 2) (heldOf w m t) (half w / m) r (2 ^ i) a b (heldOf w m t * 2 ^ i - a * (m / 2))
+    step i a b l e d = next k (2 ^ i) a b (omega (arith, e, times a half-is)) (omega (arith, d, half-is)) (pow-mono (omega arith))
+
+    pub step-room : (i a b : ℕ) → i < w → a * half w + b ≡ t * 2 ^ i → b < half w → (a < 2 ^ w) × (a * r + b < 2 ^ w * 2 ^ w)
+    step-room i a b l e d =
+        let z = step i a b l e d in
+        (omega (arith, z .word, word-is), omega (arith, z .room, times (2 ^ w) word-is, times (2 * s) word-is))
+
+    pub step-holds : (i a b : ℕ) → i < w → a * half w + b ≡ t * 2 ^ i → b < half w → Stepped w i m r t a m r (a * r + b)
+    step-holds i a b l e d = record { quotient = sym (div-is (t * 2 ^ i) (half w) a b d e .0); parts = z .parts ∙ ap (λ y. a * (m / 2) + y) (sym y-is); holds = subst (λ y. Holds w (m / 2) y m r (a * r + b)) (sym y-is) g }
+      where
+        z : Next s (m / 2) (heldOf w m t) (half w / m) r (2 ^ i) a b (heldOf w m t * 2 ^ i - a * (m / 2))
+        z = step i a b l e d
+
+        g : Holds w (m / 2) (heldOf w m t * 2 ^ i - a * (m / 2)) m r (a * r + b)
+        g = holds-of (h .twice) (h .rest) (z .kept)
+
+        y-is : heldOf w m (a * r + b) ≡ heldOf w m t * 2 ^ i - a * (m / 2)
+        y-is = held-is g
+
+    pub word-parts : (u v : ℕ) → u * 2 ^ w + v ≡ t → v < 2 ^ w → (u * half w + v / 2 * 2 ^ w ≡ t * 2 ^ (w - 1)) × (v / 2 * 2 ^ w < half w)
+    word-parts u v e l =
+        let z = word-step k u v (omega (arith, e, times u word-is)) (omega (arith, l, word-is)) in
+        (omega (arith, z .parts, times u half-is, times (v / 2) word-is), omega (arith, z .below, half-is, times (v / 2) word-is))
