@@ -4,7 +4,7 @@ use mathlib.Core.Path.{_≡_, refl, sym, ap, _∙_, subst}
 use native.Mathlib.Omega.{arith}
 use native.Mathlib.Nat.{mod-lt}
 use lib.Pow.{pow-add, pow-pos, pow-mono}
-use Rattle.algebra.proofs.Products.{times}
+use Rattle.algebra.proofs.Products.{times, times-le, mul-lt-cancel}
 use Rattle.algebra.proofs.Powers.{pow-diff}
 use Rattle.algebra.proofs.Quotients.{div-mod, div-is}
 use Rattle.reducing.specs.Reducer.{half, Holds, heldOf, Reduces, Stepped}
@@ -12,7 +12,7 @@ use Rattle.reducing.proofs.Bounds.{Kept, whole-passes-word, product-roo
 use Rattle.reducing.proofs.Steps.{Started, started, Next, next, Word, word-step}
 
 -- ---- the powers of two, by half a word's range
-module _ {w : ℕ} (l : 3 ≤ w) where
+module _ {w : ℕ} (wide : 3 ≤ w) where
   abbrev s : ℕ
   s = 2 ^ (w - 1)
 
@@ -65,14 +65,21 @@ module _ {w : ℕ} (l : 3 ≤ w) where
     z : Started s n x f r
     z = started s n x f r (omega (arith, a, eighth-is)) (omega (arith, b, quarter-is)) h (omega (arith, e, times (s - 2 * n) word-is)) d
 
-    pub start-room : 2 * x * 2 ^ w + 2 * x * f < 2 ^ w * 2 ^ w
+    -- 2 x q in two words, of which the upper one has room
+    start-room : 2 * x * 2 ^ w + 2 * x * f < 2 ^ w * 2 ^ w
     start-room = omega (arith, product-room (z .kept), times (2 * x) word-is, times (2 ^ w) word-is, times (2 * s) word-is)
 
-    pub start-holds : Holds w n x (2 * n) r (2 * x * 2 ^ w + 2 * x * f)
+    start-words : (2 * x + 2 * x * f / 2 ^ w) * 2 ^ w + 2 * x * f % 2 ^ w ≡ 2 * x * 2 ^ w + 2 * x * f
+    start-words = omega (arith, div-mod (2 * x * f) (2 ^ w) (pow-pos w))
+
+    pub start-upper : 2 * x + 2 * x * f / 2 ^ w < 2 ^ w
+    start-upper = mul-lt-cancel (2 * x + 2 * x * f / 2 ^ w) (2 ^ w) (2 ^ w) (omega (arith, start-room, start-words))
+
+    pub start-holds : Holds w n x (2 * n) r ((2 * x + 2 * x * f / 2 ^ w) * 2 ^ w + 2 * x * f % 2 ^ w)
     start-holds =
         holds-of refl (sym (z .rest-is) ∙ ap (λ i. i % (2 * n)) (sym half-is))
-        (subst (λ q. Kept s n x q r (2 * x * 2 ^ w + 2 * x * f)) (sym (z .whole-is) ∙ ap (λ i. i / (2 * n)) (sym half-is))
-        (subst (Kept s n x (2 * s + f) r) (omega (arith, times (2 * x) word-is)) (z .kept)))
+        (subst (λ q. Kept s n x q r ((2 * x + 2 * x * f / 2 ^ w) * 2 ^ w + 2 * x * f % 2 ^ w)) (sym (z .whole-is) ∙ ap (λ i. i / (2 * n)) (sym half-is))
+        (subst (Kept s n x (2 * s + f) r) (omega (arith, times (2 * x) word-is, start-words)) (z .kept)))
 
   -- ---- `partial_remainder`
   module _ {m r t : ℕ} (h : Reduces w m r t) where
@@ -89,13 +96,16 @@ module _ {w : ℕ} (l : 3 ≤ w) where
     step : (i a b : ℕ) → i < w → a * half w + b ≡ t * 2 ^ i → b < half w → Next s (m / 2) (heldOf w m t) (half w / m) r (2 ^ i) a b (heldOf w m t * 2 ^ i - a * (m / 2))
     step i a b l e d = next k (2 ^ i) a b (omega (arith, e, times a half-is)) (omega (arith, d, half-is)) (pow-mono (omega arith))
 
-    pub step-room : (i a b : ℕ) → i < w → a * half w + b ≡ t * 2 ^ i → b < half w → (a < 2 ^ w) × (a * r + b < 2 ^ w * 2 ^ w)
-    step-room i a b l e d =
-        let z = step i a b l e d in
-        (omega (arith, z .word, word-is), omega (arith, z .room, times (2 ^ w) word-is, times (2 * s) word-is))
+    step-room : (i a b : ℕ) → i < w → a * half w + b ≡ t * 2 ^ i → b < half w → a * r + b < 2 ^ w * 2 ^ w
+    step-room i a b l e d = let z = step i a b l e d in omega (arith, z .room, times (2 ^ w) word-is, times (2 * s) word-is)
 
-    pub step-holds : (i a b : ℕ) → i < w → a * half w + b ≡ t * 2 ^ i → b < half w → Stepped w i m r t a m r (a * r + b)
-    step-holds i a b l e d = record { quotient = sym (div-is (t * 2 ^ i) (half w) a b d e .0); parts = z .parts ∙ ap (λ y. a * (m / 2) + y) (sym y-is); holds = subst (λ y. Holds w (m / 2) y m r (a * r + b)) (sym y-is) g }
+    step-holds : (i a b : ℕ) → i < w → a * half w + b ≡ t * 2 ^ i → b < half w → Stepped w i m r t a m r (a * r + b)
+    step-holds i a b l e d =
+        record {
+          quotient = sym (div-is (t * 2 ^ i) (half w) a b d e .0);
+          parts = z .parts ∙ ap (λ y. a * (m / 2) + y) (sym y-is);
+          holds = subst (λ y. Holds w (m / 2) y m r (a * r + b)) (sym y-is) g;
+        }
       where
         z : Next s (m / 2) (heldOf w m t) (half w / m) r (2 ^ i) a b (heldOf w m t * 2 ^ i - a * (m / 2))
         z = step i a b l e d
@@ -106,7 +116,49 @@ module _ {w : ℕ} (l : 3 ≤ w) where
         y-is : heldOf w m (a * r + b) ≡ heldOf w m t * 2 ^ i - a * (m / 2)
         y-is = held-is g
 
-    pub word-parts : (u v : ℕ) → u * 2 ^ w + v ≡ t → v < 2 ^ w → (u * half w + v / 2 * 2 ^ w ≡ t * 2 ^ (w - 1)) × (v / 2 * 2 ^ w < half w)
-    word-parts u v e l =
-        let z = word-step k u v (omega (arith, e, times u word-is)) (omega (arith, l, word-is)) in
-        (omega (arith, z .parts, times u half-is, times (v / 2) word-is), omega (arith, z .below, half-is, times (v / 2) word-is))
+    -- ---- `shift_reduce`: the upper word u is cut where 2 ^ i will bring it past R R / 2
+    module _ (i u v b : ℕ) (l : i < w) (e : u * 2 ^ w + v ≡ t) (o : v < 2 ^ w) (c : b ≡ (u % 2 ^ (w - 1 - i) * 2 ^ w + v) * 2 ^ i) where
+      -- R R / 2 in units of 2 ^ i
+      cut : half w ≡ 2 ^ (w - 1 - i) * 2 ^ w * 2 ^ i
+      unfolding half
+      cut =
+          ap (λ j. 2 ^ j) (omega arith) ∙ pow-add 2 ((w - 1 - i) + w) i ∙ ap (λ y. y * 2 ^ i) (pow-add 2 (w - 1 - i) w)
+
+      d : (u / 2 ^ (w - 1 - i) * 2 ^ (w - 1 - i) + u % 2 ^ (w - 1 - i) ≡ u) × (u % 2 ^ (w - 1 - i) < 2 ^ (w - 1 - i))
+      d = div-mod u (2 ^ (w - 1 - i)) (pow-pos (w - 1 - i))
+
+      shift-parts : u / 2 ^ (w - 1 - i) * half w + b ≡ t * 2 ^ i
+      shift-parts = omega (arith, times (u / 2 ^ (w - 1 - i)) cut, c, times (2 ^ i) e, times (2 ^ w * 2 ^ i) (d .0))
+
+      shift-lower : (u % 2 ^ (w - 1 - i) * 2 ^ w + v) * 2 ^ i < half w
+      shift-lower =
+          let g : u % 2 ^ (w - 1 - i) * 2 ^ w + v < 2 ^ (w - 1 - i) * 2 ^ w = omega (arith, times-le (2 ^ w) (d .1), o) in
+          omega (arith, cut, times-le (2 ^ i) g, pow-pos i)
+
+      pub shift-fits : (u % 2 ^ (w - 1 - i) * 2 ^ w + v) * 2 ^ i < 2 ^ (w + w)
+      shift-fits = omega (arith, shift-lower, half-is, pow-add 2 w w, times (2 ^ w) word-is, times (2 * s) word-is)
+
+      pub shift-room : u / 2 ^ (w - 1 - i) * r + b < 2 ^ (w + w)
+      shift-room = omega (arith, step-room i (u / 2 ^ (w - 1 - i)) b l shift-parts (omega (arith, c, shift-lower)), pow-add 2 w w)
+
+      pub shift-holds : Stepped w i m r t (u / 2 ^ (w - 1 - i)) m r (u / 2 ^ (w - 1 - i) * r + b)
+      shift-holds = step-holds i (u / 2 ^ (w - 1 - i)) b l shift-parts (omega (arith, c, shift-lower))
+
+    -- ---- `word_reduce`: the new number again in two words, of which the upper one has room
+    module _ (u v : ℕ) (e : u * 2 ^ w + v ≡ t) (l : v < 2 ^ w) where
+      halved : Word s t u v
+      halved = word-step k u v (omega (arith, e, times u word-is)) (omega (arith, l, word-is))
+
+      word-parts : (u * half w + v / 2 * 2 ^ w ≡ t * 2 ^ (w - 1)) × (v / 2 * 2 ^ w < half w)
+      word-parts = (omega (arith, halved .parts, times u half-is, times (v / 2) word-is), omega (arith, halved .below, half-is, times (v / 2) word-is))
+
+      words : (u * r / 2 ^ w + v / 2) * 2 ^ w + u * r % 2 ^ w ≡ u * r + v / 2 * 2 ^ w
+      words = omega (arith, div-mod (u * r) (2 ^ w) (pow-pos w))
+
+      pub word-upper : u * r / 2 ^ w + v / 2 < 2 ^ w
+      word-upper =
+          mul-lt-cancel (u * r / 2 ^ w + v / 2) (2 ^ w) (2 ^ w)
+          (omega (arith, words, step-room (w - 1) u (v / 2 * 2 ^ w) (omega arith) (word-parts .0) (word-parts .1)))
+
+      pub word-holds : Stepped w (w - 1) m r t u m r ((u * r / 2 ^ w + v / 2) * 2 ^ w + u * r % 2 ^ w)
+      word-holds = subst (Stepped w (w - 1) m r t u m r) (sym words) (step-holds (w - 1) u (v / 2 * 2 ^ w) (omega arith) (word-parts .0) (word-parts .1))
