@@ -65,21 +65,24 @@ module _ {w : ℕ} (wide : 3 ≤ w) where
     z : Started s n x f r
     z = started s n x f r (omega (arith, a, eighth-is)) (omega (arith, b, quarter-is)) h (omega (arith, e, times (s - 2 * n) word-is)) d
 
-    -- 2 x q in two words, of which the upper one has room
-    start-room : 2 * x * 2 ^ w + 2 * x * f < 2 ^ w * 2 ^ w
+    pub start-room : 2 * x * 2 ^ w + 2 * x * f < 2 ^ w * 2 ^ w
     start-room = omega (arith, product-room (z .kept), times (2 * x) word-is, times (2 ^ w) word-is, times (2 * s) word-is)
 
+    pub start-holds : Holds w n x (2 * n) r (2 * x * 2 ^ w + 2 * x * f)
+    start-holds =
+        holds-of refl (sym (z .rest-is) ∙ ap (λ i. i % (2 * n)) (sym half-is))
+        (subst (λ q. Kept s n x q r (2 * x * 2 ^ w + 2 * x * f)) (sym (z .whole-is) ∙ ap (λ i. i / (2 * n)) (sym half-is))
+        (subst (Kept s n x (2 * s + f) r) (omega (arith, times (2 * x) word-is)) (z .kept)))
+
+    -- the product in two words, of which the upper one has room
     start-words : (2 * x + 2 * x * f / 2 ^ w) * 2 ^ w + 2 * x * f % 2 ^ w ≡ 2 * x * 2 ^ w + 2 * x * f
     start-words = omega (arith, div-mod (2 * x * f) (2 ^ w) (pow-pos w))
 
     pub start-upper : 2 * x + 2 * x * f / 2 ^ w < 2 ^ w
     start-upper = mul-lt-cancel (2 * x + 2 * x * f / 2 ^ w) (2 ^ w) (2 ^ w) (omega (arith, start-room, start-words))
 
-    pub start-holds : Holds w n x (2 * n) r ((2 * x + 2 * x * f / 2 ^ w) * 2 ^ w + 2 * x * f % 2 ^ w)
-    start-holds =
-        holds-of refl (sym (z .rest-is) ∙ ap (λ i. i % (2 * n)) (sym half-is))
-        (subst (λ q. Kept s n x q r ((2 * x + 2 * x * f / 2 ^ w) * 2 ^ w + 2 * x * f % 2 ^ w)) (sym (z .whole-is) ∙ ap (λ i. i / (2 * n)) (sym half-is))
-        (subst (Kept s n x (2 * s + f) r) (omega (arith, times (2 * x) word-is, start-words)) (z .kept)))
+    pub start-holds-words : Holds w n x (2 * n) r ((2 * x + 2 * x * f / 2 ^ w) * 2 ^ w + 2 * x * f % 2 ^ w)
+    start-holds-words = subst (Holds w n x (2 * n) r) (sym start-words) start-holds
 
   -- ---- `partial_remainder`
   module _ {m r t : ℕ} (h : Reduces w m r t) where
@@ -96,8 +99,10 @@ module _ {w : ℕ} (wide : 3 ≤ w) where
     step : (i a b : ℕ) → i < w → a * half w + b ≡ t * 2 ^ i → b < half w → Next s (m / 2) (heldOf w m t) (half w / m) r (2 ^ i) a b (heldOf w m t * 2 ^ i - a * (m / 2))
     step i a b l e d = next k (2 ^ i) a b (omega (arith, e, times a half-is)) (omega (arith, d, half-is)) (pow-mono (omega arith))
 
-    step-room : (i a b : ℕ) → i < w → a * half w + b ≡ t * 2 ^ i → b < half w → a * r + b < 2 ^ w * 2 ^ w
-    step-room i a b l e d = let z = step i a b l e d in omega (arith, z .room, times (2 ^ w) word-is, times (2 * s) word-is)
+    step-room : (i a b : ℕ) → i < w → a * half w + b ≡ t * 2 ^ i → b < half w → (a < 2 ^ w) × (a * r + b < 2 ^ w * 2 ^ w)
+    step-room i a b l e d =
+        let z = step i a b l e d in
+        (omega (arith, z .word, word-is), omega (arith, z .room, times (2 ^ w) word-is, times (2 * s) word-is))
 
     step-holds : (i a b : ℕ) → i < w → a * half w + b ≡ t * 2 ^ i → b < half w → Stepped w i m r t a m r (a * r + b)
     step-holds i a b l e d =
@@ -116,35 +121,31 @@ module _ {w : ℕ} (wide : 3 ≤ w) where
         y-is : heldOf w m (a * r + b) ≡ heldOf w m t * 2 ^ i - a * (m / 2)
         y-is = held-is g
 
-    -- ---- `shift_reduce`: the upper word u is cut where 2 ^ i will bring it past R R / 2
-    module _ (i u v b : ℕ) (l : i < w) (e : u * 2 ^ w + v ≡ t) (o : v < 2 ^ w) (c : b ≡ (u % 2 ^ (w - 1 - i) * 2 ^ w + v) * 2 ^ i) where
-      -- R R / 2 in units of 2 ^ i
-      cut : half w ≡ 2 ^ (w - 1 - i) * 2 ^ w * 2 ^ i
+    -- ---- `shift_reduce`: the number is cut where 2 ^ i will bring it past R R / 2
+    module _ (i b : ℕ) (l : i < w) (c : b ≡ t % 2 ^ (2 * w - 1 - i) * 2 ^ i) where
+      cut : half w ≡ 2 ^ (2 * w - 1 - i) * 2 ^ i
       unfolding half
-      cut =
-          ap (λ j. 2 ^ j) (omega arith) ∙ pow-add 2 ((w - 1 - i) + w) i ∙ ap (λ y. y * 2 ^ i) (pow-add 2 (w - 1 - i) w)
+      cut = sym (pow-diff {a = 2 * w - 1} {b = i} (omega arith))
 
-      d : (u / 2 ^ (w - 1 - i) * 2 ^ (w - 1 - i) + u % 2 ^ (w - 1 - i) ≡ u) × (u % 2 ^ (w - 1 - i) < 2 ^ (w - 1 - i))
-      d = div-mod u (2 ^ (w - 1 - i)) (pow-pos (w - 1 - i))
+      d : (t / 2 ^ (2 * w - 1 - i) * 2 ^ (2 * w - 1 - i) + t % 2 ^ (2 * w - 1 - i) ≡ t) × (t % 2 ^ (2 * w - 1 - i) < 2 ^ (2 * w - 1 - i))
+      d = div-mod t (2 ^ (2 * w - 1 - i)) (pow-pos (2 * w - 1 - i))
 
-      shift-parts : u / 2 ^ (w - 1 - i) * half w + b ≡ t * 2 ^ i
-      shift-parts = omega (arith, times (u / 2 ^ (w - 1 - i)) cut, c, times (2 ^ i) e, times (2 ^ w * 2 ^ i) (d .0))
+      shift-parts : t / 2 ^ (2 * w - 1 - i) * half w + b ≡ t * 2 ^ i
+      shift-parts = omega (arith, times (t / 2 ^ (2 * w - 1 - i)) cut, c, times (2 ^ i) (d .0))
 
-      shift-lower : (u % 2 ^ (w - 1 - i) * 2 ^ w + v) * 2 ^ i < half w
-      shift-lower =
-          let g : u % 2 ^ (w - 1 - i) * 2 ^ w + v < 2 ^ (w - 1 - i) * 2 ^ w = omega (arith, times-le (2 ^ w) (d .1), o) in
-          omega (arith, cut, times-le (2 ^ i) g, pow-pos i)
+      shift-lower : b < half w
+      shift-lower = omega (arith, c, cut, times-le (2 ^ i) (d .1), pow-pos i)
 
-      pub shift-fits : (u % 2 ^ (w - 1 - i) * 2 ^ w + v) * 2 ^ i < 2 ^ (w + w)
+      pub shift-fits : b < 2 ^ (w + w)
       shift-fits = omega (arith, shift-lower, half-is, pow-add 2 w w, times (2 ^ w) word-is, times (2 * s) word-is)
 
-      pub shift-room : u / 2 ^ (w - 1 - i) * r + b < 2 ^ (w + w)
-      shift-room = omega (arith, step-room i (u / 2 ^ (w - 1 - i)) b l shift-parts (omega (arith, c, shift-lower)), pow-add 2 w w)
+      pub shift-room : (t / 2 ^ (2 * w - 1 - i) < 2 ^ w) × (t / 2 ^ (2 * w - 1 - i) * r + b < 2 ^ (w + w))
+      shift-room = let z = step-room i (t / 2 ^ (2 * w - 1 - i)) b l shift-parts shift-lower in (z .0, omega (arith, z .1, pow-add 2 w w))
 
-      pub shift-holds : Stepped w i m r t (u / 2 ^ (w - 1 - i)) m r (u / 2 ^ (w - 1 - i) * r + b)
-      shift-holds = step-holds i (u / 2 ^ (w - 1 - i)) b l shift-parts (omega (arith, c, shift-lower))
+      pub shift-holds : Stepped w i m r t (t / 2 ^ (2 * w - 1 - i)) m r (t / 2 ^ (2 * w - 1 - i) * r + b)
+      shift-holds = step-holds i (t / 2 ^ (2 * w - 1 - i)) b l shift-parts shift-lower
 
-    -- ---- `word_reduce`: the new number again in two words, of which the upper one has room
+    -- ---- `word_reduce`: the upper word is taken out, and the lower halved
     module _ (u v : ℕ) (e : u * 2 ^ w + v ≡ t) (l : v < 2 ^ w) where
       halved : Word s t u v
       halved = word-step k u v (omega (arith, e, times u word-is)) (omega (arith, l, word-is))
@@ -152,13 +153,26 @@ module _ {w : ℕ} (wide : 3 ≤ w) where
       word-parts : (u * half w + v / 2 * 2 ^ w ≡ t * 2 ^ (w - 1)) × (v / 2 * 2 ^ w < half w)
       word-parts = (omega (arith, halved .parts, times u half-is, times (v / 2) word-is), omega (arith, halved .below, half-is, times (v / 2) word-is))
 
+      pub word-room : u * r + v / 2 * 2 ^ w < 2 ^ w * 2 ^ w
+      word-room = step-room (w - 1) u (v / 2 * 2 ^ w) (omega arith) (word-parts .0) (word-parts .1) .1
+
+      pub word-holds : Stepped w (w - 1) m r t u m r (u * r + v / 2 * 2 ^ w)
+      word-holds = step-holds (w - 1) u (v / 2 * 2 ^ w) (omega arith) (word-parts .0) (word-parts .1)
+
+      -- the number in two words, of which the upper one has room
       words : (u * r / 2 ^ w + v / 2) * 2 ^ w + u * r % 2 ^ w ≡ u * r + v / 2 * 2 ^ w
       words = omega (arith, div-mod (u * r) (2 ^ w) (pow-pos w))
 
       pub word-upper : u * r / 2 ^ w + v / 2 < 2 ^ w
-      word-upper =
-          mul-lt-cancel (u * r / 2 ^ w + v / 2) (2 ^ w) (2 ^ w)
-          (omega (arith, words, step-room (w - 1) u (v / 2 * 2 ^ w) (omega arith) (word-parts .0) (word-parts .1)))
+      word-upper = mul-lt-cancel (u * r / 2 ^ w + v / 2) (2 ^ w) (2 ^ w) (omega (arith, words, word-room))
 
-      pub word-holds : Stepped w (w - 1) m r t u m r ((u * r / 2 ^ w + v / 2) * 2 ^ w + u * r % 2 ^ w)
-      word-holds = subst (Stepped w (w - 1) m r t u m r) (sym words) (step-holds (w - 1) u (v / 2 * 2 ^ w) (omega arith) (word-parts .0) (word-parts .1))
+      pub word-holds-words : Stepped w (w - 1) m r t u m r ((u * r / 2 ^ w + v / 2) * 2 ^ w + u * r % 2 ^ w)
+      word-holds-words = subst (Stepped w (w - 1) m r t u m r) (sym words) word-holds
+
+  -- a cut of two words falls into the upper one
+  pub cut-in-upper : (i u v : ℕ) → i < w → v < 2 ^ w → ((u * 2 ^ w + v) / 2 ^ (2 * w - 1 - i) ≡ u / 2 ^ (w - 1 - i)) × ((u * 2 ^ w + v) % 2 ^ (2 * w - 1 - i) ≡ u % 2 ^ (w - 1 - i) * 2 ^ w + v)
+  cut-in-upper i u v l o =
+      let p : 2 ^ (2 * w - 1 - i) ≡ 2 ^ (w - 1 - i) * 2 ^ w = ap (λ j. 2 ^ j) (omega arith) ∙ pow-add 2 (w - 1 - i) w in
+      let d = div-mod u (2 ^ (w - 1 - i)) (pow-pos (w - 1 - i)) in
+      div-is (u * 2 ^ w + v) (2 ^ (2 * w - 1 - i)) (u / 2 ^ (w - 1 - i)) (u % 2 ^ (w - 1 - i) * 2 ^ w + v)
+      (omega (arith, p, times-le (2 ^ w) (d .1), o)) (omega (arith, times (u / 2 ^ (w - 1 - i)) p, times (2 ^ w) (d .0)))

@@ -5,7 +5,7 @@ use native.Mathlib.Nat.{add-zero}
 use native.Mathlib.Omega.{arith}
 use borrow.Author.Needs.{needs}
 use Rattle.reducing.specs.Reducer.{Holds}
-use Rattle.reducing.proofs.Widths.{start-upper, start-holds}
+use Rattle.reducing.proofs.Widths.{start-upper, start-holds-words}
 use Rattle.reducer64.proofs.Reducer64.new.Statement.{statement}
 use Rattle.reducer64.proofs.Reducer64.new.Tie as tie
 
@@ -20,7 +20,7 @@ returns c =
     let x = d .before .args .x in
     let n = d .before .args .n in
     subst (λ t. Holds 64 n x (2 * n) (d .div .result .remainder) t) (ap₂ (λ h t. (2 * x + h) * 2 ^ 64 + t) (sym (c .before .mul-hi .ensures)) (sym (c .mul-lo .ensures)))
-    (start-holds (omega arith) n x (d .div .result .quotient) (d .div .result .remainder) a b l (quotient-is d) (d .div .ensures .1))
+    (start-holds-words (omega arith) n x (d .div .result .quotient) (d .div .result .remainder) a b l (quotient-is d) (d .div .ensures .1))
 
 add-t8 : tie.Need-add-t8
 add-t8 c =

@@ -1,21 +1,24 @@
--- `reducer64::Reducer64::shift_reduce` meets its contract (reducing: Widths). Assumes nothing.
+-- `reducer64::Reducer64::shift_reduce` meets its contract: the cut falls into the upper word (reducing: Widths). Assumes nothing.
 use mathlib.Core.Path.{_≡_, refl, sym, ap, _∙_, subst}
 use Prim.Native.Nat.{_+_, _-_, _*_, _/_, _%_, _^_, _<_}
 use native.Mathlib.Omega.{arith}
 use borrow.Author.Needs.{needs}
 use Rattle.words.specs.Value.{value}
 use Rattle.reducing.specs.Reducer.{Stepped}
-use Rattle.reducing.proofs.Widths.{shift-fits, shift-room, shift-holds}
+use Rattle.reducing.proofs.Widths.{cut-in-upper, shift-fits, shift-room, shift-holds}
 use Rattle.reducer64.proofs.Reducer64.shift_reduce.Statement.{statement}
 use Rattle.reducer64.proofs.Reducer64.shift_reduce.Tie as tie
 
--- what of the upper word stays below R R / 2, and the lower word, times 2 ^ k
-shifted : (c : tie.After-shl) → let a = c .before .before .before .args in value (c .shl .result) ≡ (a .self .product .hi % 2 ^ (63 - a .k) * 2 ^ 64 + a .self .product .lo) * 2 ^ a .k
-shifted c = let a = c .before .before .before .args in c .shl .ensures ∙ ap (λ h. (h * 2 ^ 64 + a .self .product .lo) * 2 ^ a .k) (c .before .low .ensures)
+-- what is cut off, and what stays
+cut : (c : tie.After-struct-known) → let p = c .before .args .self .product in let k = c .before .args .k in
+    (value p / 2 ^ (127 - k) ≡ p .hi / 2 ^ (63 - k)) × (value p % 2 ^ (127 - k) ≡ p .hi % 2 ^ (63 - k) * 2 ^ 64 + p .lo)
+cut c = let p = c .before .args .self .product in cut-in-upper {w = 64} (omega arith) (c .before .args .k) (p .hi) (p .lo) (c .before .pre .1) (c .struct-known .given .1 .1 .0 .1 .0 .fits)
 
--- the lower word is one
-word : (c : tie.After-struct-known) → c .before .args .self .product .lo < 2 ^ 64
-word c = c .struct-known .given .1 .1 .0 .1 .0 .fits
+-- what stays, times 2 ^ k
+stays : (c : tie.After-shl) → let a = c .before .before .before .args in value (c .shl .result) ≡ value (a .self .product) % 2 ^ (127 - a .k) * 2 ^ a .k
+stays c =
+    let a = c .before .before .before .args in
+    c .shl .ensures ∙ ap (λ h. (h * 2 ^ 64 + a .self .product .lo) * 2 ^ a .k) (c .before .low .ensures) ∙ ap (λ t. t * 2 ^ a .k) (sym (cut (c .before .before) .1))
 
 returns : tie.Need-returns
 returns c =
@@ -23,9 +26,11 @@ returns c =
     let k = b .before .before in
     let s = k .before in
     let z = s .args .self in
-    let p = z .product in
-    subst (Stepped 64 (s .args .k) (z .m) (z .r) (value p) (p .hi / 2 ^ (63 - s .args .k)) (z .m) (z .r)) (sym (c .add .ensures ∙ ap (λ t. t + value (b .shl .result)) (c .before .mul .ensures)))
-    (shift-holds (omega arith) (s .pre .0) (s .args .k) (p .hi) (p .lo) (value (b .shl .result)) (s .pre .1) refl (word k) (shifted b))
+    let t = value (z .product) in
+    let q : t / 2 ^ (127 - s .args .k) ≡ z .product .hi / 2 ^ (63 - s .args .k) = cut k .0 in
+    subst (Stepped 64 (s .args .k) (z .m) (z .r) t (z .product .hi / 2 ^ (63 - s .args .k)) (z .m) (z .r)) (sym (c .add .ensures ∙ ap (λ h. h + value (b .shl .result)) (c .before .mul .ensures)))
+    (subst (λ a. Stepped 64 (s .args .k) (z .m) (z .r) t a (z .m) (z .r) (a * z .r + value (b .shl .result))) q
+    (shift-holds (omega arith) (s .pre .0) (s .args .k) (value (b .shl .result)) (s .pre .1) (stays b)))
 
 sub-a : tie.Need-sub-a
 sub-a c = search needs
@@ -44,10 +49,12 @@ low-requires c κs = search needs
 
 shl-requires : tie.Need-shl-requires
 shl-requires c κs =
-    let k = c .before in
-    let s = k .before in
-    let p = s .args .self .product in
-    (omega arith, subst (λ h. (h * 2 ^ 64 + p .lo) * 2 ^ s .args .k < 2 ^ 128) (sym (c .low .ensures)) (shift-fits (omega arith) (s .pre .0) (s .args .k) (p .hi) (p .lo) _ (s .pre .1) refl (word k) refl))
+    let s = c .before .before in
+    let p = s .args .self .product in (
+      omega arith,
+      subst (λ h. h * 2 ^ s .args .k < 2 ^ 128) (cut (c .before) .1 ∙ ap (λ h. h * 2 ^ 64 + p .lo) (sym (c .low .ensures)))
+          (shift-fits {w = 64} (omega arith) (s .pre .0) (s .args .k) _ (s .pre .1) refl),
+    )
 
 mul-requires : tie.Need-mul-requires
 mul-requires c κs = search needs
@@ -57,9 +64,8 @@ add-requires c κs =
     let b = c .before in
     let k = b .before .before in
     let s = k .before in
-    let p = s .args .self .product in
-    subst (λ t. t + value (b .shl .result) < 2 ^ 128) (sym (c .mul .ensures))
-    (shift-room (omega arith) (s .pre .0) (s .args .k) (p .hi) (p .lo) (value (b .shl .result)) (s .pre .1) refl (word k) (shifted b))
+    subst (λ h. h + value (b .shl .result) < 2 ^ 128) (ap (λ a. a * s .args .self .r) (cut k .0) ∙ sym (c .mul .ensures))
+    (shift-room {w = 64} (omega arith) (s .pre .0) (s .args .k) (value (b .shl .result)) (s .pre .1) (stays b) .1)
 
 pub shift-reduce-spec : {M : Type 1} → statement M
 shift-reduce-spec = tie.close (tie.spec sub-a cast-a shr-a sub-low low-requires shl-requires mul-requires add-requires returns)

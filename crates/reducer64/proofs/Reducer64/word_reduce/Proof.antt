@@ -5,7 +5,7 @@ use native.Mathlib.Omega.{arith}
 use borrow.Author.Needs.{needs}
 use Rattle.words.specs.Value.{value}
 use Rattle.reducing.specs.Reducer.{Stepped}
-use Rattle.reducing.proofs.Widths.{word-upper, word-holds}
+use Rattle.reducing.proofs.Widths.{word-upper, word-holds-words}
 use Rattle.reducer64.proofs.Reducer64.word_reduce.Statement.{statement}
 use Rattle.reducer64.proofs.Reducer64.word_reduce.Tie as tie
 
@@ -16,7 +16,7 @@ returns c =
     let z = s .args .self in
     let p = z .product in
     subst (Stepped 64 63 (z .m) (z .r) (value p) (p .hi) (z .m) (z .r)) (ap₂ (λ h t. (h + p .lo / 2) * 2 ^ 64 + t) (sym (k .before .mul-hi .ensures)) (sym (c .mul-lo .ensures)))
-    (word-holds (omega arith) (s .pre) (p .hi) (p .lo) refl (k .struct-known .given .1 .1 .0 .1 .0 .fits))
+    (word-holds-words (omega arith) (s .pre) (p .hi) (p .lo) refl (k .struct-known .given .1 .1 .0 .1 .0 .fits))
 
 add-t5 : tie.Need-add-t5
 add-t5 c =
