@@ -1,0 +1,2 @@
+-- What the contracts of the reducer cite.
+pub mod Held
