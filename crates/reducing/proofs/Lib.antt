@@ -2,3 +2,5 @@
 pub mod Bounds
 pub mod Steps
 pub mod Widths
+pub mod Rounds
+pub mod Scales

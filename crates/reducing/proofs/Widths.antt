@@ -56,7 +56,7 @@ module _ {w : ℕ} (wide : 3 ≤ w) where
       }
 
   -- what is held is x
-  held-is : {n x m r t : ℕ} → Holds w n x m r t → heldOf w m t ≡ x
+  pub held-is : {n x m r t : ℕ} → Holds w n x m r t → heldOf w m t ≡ x
   held-is {n} {x} {m} {r} {t} h =
       div-is t (2 * (half w / m)) x 0 (omega (arith, whole-passes-word (kept-of h))) (omega (arith, h .product)) .0
 

@@ -32,3 +32,8 @@ pub record Stepped (w k m r t a m′ r′ t′ : ℕ) : Type 0 where
 pub record Left (n x i h : ℕ) : Type 0 where
   pub quotient : ℕ
   pub parts : x * 2 ^ i ≡ quotient * n + h
+
+-- y is a power of two
+pub record Power (y : ℕ) : Type 0 where
+  pub exponent : ℕ
+  pub is : y ≡ 2 ^ exponent

@@ -1,0 +1,61 @@
+-- The divisor scaled until it has two leading zeros, and the divisors that are powers of two. Assumes nothing.
+use Prim.Native.Nat.{ℕ, _+_, _-_, _*_, _/_, _%_, _^_, _≤_, _<_}
+use mathlib.Core.Path.{_≡_, sym, _∙_}
+use native.Mathlib.Omega.{arith}
+use lib.Pow.{pow-add, pow-pos, pow-mono}
+use Rattle.algebra.proofs.Products.{order, times, times-le, mul-eq-cancel}
+use Rattle.algebra.proofs.Powers.{pow-diff, pow-inj-lt}
+use Rattle.algebra.proofs.Quotients.{div-mod, div-is, mod-is}
+use Rattle.algebra.proofs.Leading.{Fills}
+use Rattle.reducing.specs.Reducer.{Power}
+
+-- y has z leading zeros: scaled by all but two of them it has two
+pub record Scaled (w y z : ℕ) : Type 0 where
+  pub two : 2 ≤ z
+  pub least : 2 ^ (w - 3) ≤ y * 2 ^ (z - 2)
+  pub most : y * 2 ^ (z - 2) < 2 ^ (w - 2)
+
+pub scaled : {w y z : ℕ} → 3 ≤ w → y < 2 ^ (w - 2) → Fills w y z → Scaled w y z
+scaled {w} {y} {z} l h f = record { two = two; least = omega (arith, parts, f .least, eighth); most = omega (arith, parts, f .most, quarter) }
+  where
+    quarter : 2 ^ (w - 2) * 4 ≡ 2 ^ w
+    quarter = pow-diff {a = w} {b = 2} (omega arith)
+
+    eighth : 2 ^ (w - 3) * 8 ≡ 2 ^ w
+    eighth = pow-diff {a = w} {b = 3} (omega arith)
+
+    two : 2 ≤ z
+    two =
+        order 2 z (λ d. d)
+        (λ d. let g : 2 ^ z ≤ 2 ^ 1 = pow-mono {j = 1} (omega arith) in absurd (omega (arith, f .least, quarter, h, times-le y g)))
+
+    parts : y * 2 ^ z ≡ y * 2 ^ (z - 2) * 4
+    parts = omega (arith, times y (pow-diff {a = z} {b = 2} two))
+
+-- ---- the scale: what is left of x 2 ^ (e + s) for y 2 ^ s is 2 ^ s times what is left of x 2 ^ e for y
+pub left-scaled-back : (x e y s : ℕ) → 0 < y → x * 2 ^ (e + s) % (y * 2 ^ s) / 2 ^ s ≡ x * 2 ^ e % y
+left-scaled-back x e y s p =
+    let d = div-mod (x * 2 ^ e) y p in
+    let h : x * 2 ^ (e + s) % (y * 2 ^ s) ≡ x * 2 ^ e % y * 2 ^ s
+    = mod-is (x * 2 ^ (e + s)) (y * 2 ^ s) (x * 2 ^ e / y) (x * 2 ^ e % y * 2 ^ s) (omega (arith, times-le (2 ^ s) (d .1), pow-pos s)) (simp pow-add (omega (arith, times (2 ^ s) (d .0)))) in
+    div-is (x * 2 ^ (e + s) % (y * 2 ^ s)) (2 ^ s) (x * 2 ^ e % y) 0 (pow-pos s) (omega (arith, h)) .0
+
+-- ---- a divisor that is a power of two: the low bits, and none where they are all shifted out
+pub low-bits : (x e j w : ℕ) → j ≤ w → x * 2 ^ e % 2 ^ w % 2 ^ j ≡ x * 2 ^ e % 2 ^ j
+low-bits x e j w l =
+    let d = div-mod (x * 2 ^ e) (2 ^ w) (pow-pos w) in
+    let g = div-mod (x * 2 ^ e % 2 ^ w) (2 ^ j) (pow-pos j) in
+    sym (mod-is (x * 2 ^ e) (2 ^ j) (x * 2 ^ e / 2 ^ w * 2 ^ (w - j) + x * 2 ^ e % 2 ^ w / 2 ^ j) _ (g .1)
+    (omega (arith, d .0, g .0, times (x * 2 ^ e / 2 ^ w) (pow-diff l))))
+
+pub no-bits : (x e j : ℕ) → j ≤ e → 0 ≡ x * 2 ^ e % 2 ^ j
+no-bits x e j l = sym (mod-is (x * 2 ^ e) (2 ^ j) (x * 2 ^ (e - j)) 0 (pow-pos j) (omega (arith, times x (pow-diff l))))
+
+-- y 2 ^ s is a power of two only if y is
+pub power-scaled : (y s k : ℕ) → 0 < y → y * 2 ^ s ≡ 2 ^ k → (s ≤ k) × (y ≡ 2 ^ (k - s))
+power-scaled y s k p e =
+    let l : s < k + 1 = pow-inj-lt s (k + 1) (simp pow-add (omega (arith, e, times-le (2 ^ s) p, pow-pos k))) in
+    (omega arith, mul-eq-cancel y (2 ^ (k - s)) (2 ^ s) (pow-pos s) (e ∙ sym (pow-diff {a = k} {b = s} (omega arith))))
+
+pub power-in-word : (w y : ℕ) → (p : Power y) → y < 2 ^ w → p .exponent < w
+power-in-word w y p l = pow-inj-lt (p .exponent) w (omega (arith, p .is))
