@@ -4,8 +4,8 @@ ghost use Rattle.ieee.specs.Reduction.{reduceOf};
 ghost use Rattle.ieee.specs.Refusal.{numberOf, valueOf};
 use super::Reduced32;
 use super::Reduced64;
-use refusals::refusal32;
-use refusals::refusal64;
+use refusals::at32::refusal32;
+use refusals::at64::refusal64;
 use stepwise::steps32;
 use stepwise::steps64;
 

@@ -6,8 +6,8 @@ use super::Reduced32;
 use super::Reduced64;
 use modular32::linear_mul_reduction32;
 use modular64::linear_mul_reduction64;
-use refusals::refusal32;
-use refusals::refusal64;
+use refusals::at32::refusal32;
+use refusals::at64::refusal64;
 
 pub fn reduce64(x: u64, e: u32, y: u64) -> Reduced64
     ensures { λ r. ⌜ (r .refusal ≡ numberOf (reduceOf 64 x e y)) × (r .value ≡ valueOf (reduceOf 64 x e y)) ⌝ }

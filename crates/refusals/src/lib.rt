@@ -1,35 +1,3 @@
-// Which inputs the reduction refuses.
-ghost use mathlib.Core.Path.{_≡_};
-ghost use Rattle.ieee.specs.Reduction.{reduceOf};
-ghost use Rattle.ieee.specs.Refusal.{numberOf};
-
-// The divisor is tested first, so that twice y cannot wrap. A divisor of 0 is refused by the second test, since no x is below 0.
-pub fn refusal64(x: u64, e: u32, y: u64) -> u32
-    ensures { λ r. ⌜ r ≡ numberOf (reduceOf 64 x e y) ⌝ }
-{
-    if y > 0x3fff_ffff_ffff_ffff {
-        return 4;
-    }
-    if x >= 2 * y {
-        return 4;
-    }
-    if e > 4096 {
-        return 5;
-    }
-    0
-}
-
-pub fn refusal32(x: u32, e: u32, y: u32) -> u32
-    ensures { λ r. ⌜ r ≡ numberOf (reduceOf 32 x e y) ⌝ }
-{
-    if y > 0x3fff_ffff {
-        return 4;
-    }
-    if x >= 2 * y {
-        return 4;
-    }
-    if e > 4096 {
-        return 5;
-    }
-    0
-}
+// Which inputs the reduction refuses, by number.
+pub mod at32;
+pub mod at64;

@@ -1,9 +1,9 @@
--- `refusals::refusal32` meets its contract: each test is a reason (Numbers). Assumes nothing.
+-- `refusals::at32::refusal32` meets its contract: each test is a reason (Numbers). Assumes nothing.
 use native.Mathlib.Omega.{arith}
 use borrow.Author.Needs.{needs}
 use Rattle.refusals.proofs.Numbers.{divisor-past-limit, x-not-below, shift-past-limit, accepted}
-use Rattle.refusals.proofs.refusal32.Statement.{statement}
-use Rattle.refusals.proofs.refusal32.Tie as tie
+use Rattle.refusals.proofs.at32.refusal32.Statement.{statement}
+use Rattle.refusals.proofs.at32.refusal32.Tie as tie
 
 returns : tie.Need-returns
 returns c = divisor-past-limit 32 _ _ _ (omega arith)

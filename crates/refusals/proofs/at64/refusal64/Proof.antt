@@ -1,9 +1,9 @@
--- `refusals::refusal64` meets its contract: each test is a reason (Numbers). Assumes nothing.
+-- `refusals::at64::refusal64` meets its contract: each test is a reason (Numbers). Assumes nothing.
 use native.Mathlib.Omega.{arith}
 use borrow.Author.Needs.{needs}
 use Rattle.refusals.proofs.Numbers.{divisor-past-limit, x-not-below, shift-past-limit, accepted}
-use Rattle.refusals.proofs.refusal64.Statement.{statement}
-use Rattle.refusals.proofs.refusal64.Tie as tie
+use Rattle.refusals.proofs.at64.refusal64.Statement.{statement}
+use Rattle.refusals.proofs.at64.refusal64.Tie as tie
 
 returns : tie.Need-returns
 returns c = divisor-past-limit 64 _ _ _ (omega arith)

@@ -1,0 +1,20 @@
+// What the reduction on 64-bit words refuses.
+ghost use mathlib.Core.Path.{_≡_};
+ghost use Rattle.ieee.specs.Reduction.{reduceOf};
+ghost use Rattle.ieee.specs.Refusal.{numberOf};
+
+// The divisor is tested first, so that twice y cannot wrap. A divisor of 0 is refused by the second test, since no x is below 0.
+pub fn refusal64(x: u64, e: u32, y: u64) -> u32
+    ensures { λ r. ⌜ r ≡ numberOf (reduceOf 64 x e y) ⌝ }
+{
+    if y > 0x3fff_ffff_ffff_ffff {
+        return 4;
+    }
+    if x >= 2 * y {
+        return 4;
+    }
+    if e > 4096 {
+        return 5;
+    }
+    0
+}
