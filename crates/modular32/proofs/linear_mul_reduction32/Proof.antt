@@ -30,6 +30,12 @@ module _ (c : tie.Start) where
   kept : y * 2 ^ (z - 2) % 2 ^ 32 ≡ y * 2 ^ (z - 2)
   kept = mod-eq-of-lt (omega (arith, fits .most))
 
+by-words32-requires : tie.Need-by-words32-requires
+by-words32-requires c κs =
+    let s = c .before in
+    let k = kept s in
+    (omega (arith, k, fits s .least), omega (arith, k, fits s .most), omega (arith, k, times-le (y s) (pow-pos (z s - 2))))
+
 returns-2 : tie.Need-returns-2
 returns-2 c =
     let s = c .before .before in
@@ -53,12 +59,6 @@ by-power32-requires c κs =
 
 add-by-words32 : tie.Need-add-by-words32
 add-by-words32 c = record { fits = omega (arith, fills (c .before) .fewer) }
-
-by-words32-requires : tie.Need-by-words32-requires
-by-words32-requires c κs =
-    let s = c .before in
-    let k = kept s in
-    (omega (arith, k, fits s .least), omega (arith, k, fits s .most), omega (arith, k, times-le (y s) (pow-pos (z s - 2))))
 
 shr-result : tie.Need-shr-result
 shr-result c = omega (arith, fills (c .before .before) .fewer)

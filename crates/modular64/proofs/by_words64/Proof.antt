@@ -33,7 +33,7 @@ returns c =
     c .once .ensures ∙ ap (λ h. h % s .args .n) (c .before .partial-remainder .ensures) ∙ left-at-last (omega arith) (last b .left)
 
 new-requires : tie.Need-new-requires Inv-loop μ-loop
-new-requires c κs = c .pre
+new-requires c κs = (c .pre .0, c .pre .1, omega arith)
 
 loop-holds : tie.Need-loop-holds Inv-loop μ-loop
 loop-holds c =

@@ -30,6 +30,12 @@ module _ (c : tie.Start) where
   kept : y * 2 ^ (z - 2) % 2 ^ 64 ≡ y * 2 ^ (z - 2)
   kept = mod-eq-of-lt (omega (arith, fits .most))
 
+by-words64-requires : tie.Need-by-words64-requires
+by-words64-requires c κs =
+    let s = c .before in
+    let k = kept s in
+    (omega (arith, k, fits s .least), omega (arith, k, fits s .most), omega (arith, k, times-le (y s) (pow-pos (z s - 2))))
+
 returns-2 : tie.Need-returns-2
 returns-2 c =
     let s = c .before .before in
@@ -56,12 +62,6 @@ by-power64-requires c κs =
 
 add-by-words64 : tie.Need-add-by-words64
 add-by-words64 c = record { fits = omega (arith, fills (c .before) .fewer) }
-
-by-words64-requires : tie.Need-by-words64-requires
-by-words64-requires c κs =
-    let s = c .before in
-    let k = kept s in
-    (omega (arith, k, fits s .least), omega (arith, k, fits s .most), omega (arith, k, times-le (y s) (pow-pos (z s - 2))))
 
 cast-result : tie.Need-cast-result
 cast-result c = record { fits = omega (arith, fills (c .before .before) .fewer) }

@@ -5,7 +5,7 @@ use Rattle.stepwise.proofs.once.Statement.{statement}
 use Rattle.stepwise.proofs.once.Tie as tie
 
 returns : tie.Need-returns
-returns c = left-as-it-is _ _ (c .if1 .taken)
+returns c = let a = c .before .args in left-as-it-is (a .x) (a .y) (omega arith)
 
 returns-2 : tie.Need-returns-2
 returns-2 c = left-taken-once _ _ (omega arith) (omega arith)
