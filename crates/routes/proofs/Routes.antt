@@ -1,0 +1,35 @@
+-- x times 2 ^ e modulo y, by what is left of x, and the quotient where x is below twice y. Assumes nothing.
+use Prim.Native.Nat.{ℕ, suc, _+_, _*_, _/_, _%_, _^_, _≤_, _<_}
+use mathlib.Core.Path.{_≡_, sym, ap, _∙_}
+use mathlib.Core.Bool.{cond}
+use native.Mathlib.Nat.{two-pow-succ, mod-lt, div-add-mod'}
+use native.Mathlib.Omega.{arith}
+use lib.Dec.{leb}
+use lib.Pow.{pow-pos, pow-mono}
+use borrow.Author.Tests.{le-leb, lt-leb}
+use Rattle.algebra.proofs.Products.{order, times-le, mul-lt-cancel}
+use Rattle.algebra.proofs.Quotients.{div-mod, mod-is, mod-scale}
+
+-- what is left of x, or x itself, is below twice y and has the same remainders
+pub near-is : (x y : ℕ) → 0 < y → (r : ℕ) → r ≡ cond (leb (2 * y) x) (x % y) x → (r < 2 * y) × ((e : ℕ) → r * 2 ^ e % y ≡ x * 2 ^ e % y)
+near-is x y p r h =
+    order (2 * y) x
+    (λ l.
+    let k : r ≡ x % y = h ∙ ap (λ b. cond b (x % y) x) (le-leb (2 * y) x l) in
+    (omega (arith, mod-lt x p), λ e. ap (λ t. t * 2 ^ e % y) k ∙ ap (λ t. t % y) (omega arith) ∙ mod-scale (2 ^ e) x y ∙ ap (λ t. t % y) (omega arith)))
+    (λ l.
+    let k : r ≡ x = h ∙ ap (λ b. cond b (x % y) x) (lt-leb (2 * y) x l) in
+    (omega arith, λ e. ap (λ t. t * 2 ^ e % y) k))
+
+-- the quotient is below 2 ^ w where e is
+pub quotient-fits : (w x e y : ℕ) → x < 2 * y → e < w → x * 2 ^ e < y * 2 ^ w
+quotient-fits w x e y l h =
+    let t : 2 ^ e * 2 ≤ 2 ^ w = omega (arith, two-pow-succ e, pow-mono {i = suc e} {j = w} h) in
+    omega (arith, times-le (2 ^ e) l, pow-pos e, times-le y t)
+
+pub quotient-below : (w x e y : ℕ) → x < 2 * y → e < w → x * 2 ^ e / y < 2 ^ w
+quotient-below w x e y l h = mul-lt-cancel (x * 2 ^ e / y) (2 ^ w) y (omega (arith, quotient-fits w x e y l h, div-add-mod' (x * 2 ^ e) y))
+
+-- so the upper word of two is below y
+pub upper-below : (w x e y : ℕ) → x < 2 * y → e < w → x * 2 ^ e / 2 ^ w < y
+upper-below w x e y l h = mul-lt-cancel (x * 2 ^ e / 2 ^ w) y (2 ^ w) (omega (arith, quotient-fits w x e y l h, div-add-mod' (x * 2 ^ e) (2 ^ w)))

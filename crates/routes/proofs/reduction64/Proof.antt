@@ -1,0 +1,48 @@
+-- What goes on is below twice y and has the remainders of x (Routes), and each route gives the remainder. Assumes nothing.
+use Prim.Native.Nat.{ℕ, _*_, _%_, _^_, _<_}
+use mathlib.Core.Path.{_≡_}
+use native.Mathlib.Omega.{arith}
+use borrow.Author.Needs.{needs}
+use Rattle.routes.proofs.Routes.{near-is}
+use Rattle.routes.proofs.reduction64.Statement.{statement}
+use Rattle.routes.proofs.reduction64.Tie as tie
+
+module _ (c : tie.After-below-twice) where
+  abbrev s : tie.Start
+  s = c .before
+
+  near : (c .below-twice .result < 2 * s .args .y) × ((e : ℕ) → c .below-twice .result * 2 ^ e % s .args .y ≡ s .args .x * 2 ^ e % s .args .y)
+  near = near-is (s .args .x) (s .args .y) (s .pre .0) (c .below-twice .result) (c .below-twice .ensures)
+
+returns : tie.Need-returns
+returns c = let o = c .before .before in omega (arith, c .steps64 .ensures, near o .1 (s o .args .e))
+
+returns-2 : tie.Need-returns-2
+returns-2 c = let o = c .before .before .before in omega (arith, c .by-division64 .ensures, near o .1 (s o .args .e))
+
+returns-3 : tie.Need-returns-3
+returns-3 c = let o = c .before .before .before in omega (arith, c .steps642 .ensures, near o .1 (s o .args .e))
+
+below-twice-requires : tie.Need-below-twice-requires
+below-twice-requires c κs = search needs
+
+steps64-requires : tie.Need-steps64-requires
+steps64-requires c κs = (near (c .before) .0, omega arith)
+
+by-division64-requires : tie.Need-by-division64-requires
+by-division64-requires c κs = (near (c .before .before) .0, omega arith)
+
+steps64-requires-2 : tie.Need-steps64-requires-2
+steps64-requires-2 c κs = (near (c .before .before) .0, omega arith)
+
+pub reduction64-spec : {M : Type 1} → statement M
+reduction64-spec =
+    tie.close
+    (tie.spec
+    below-twice-requires
+    steps64-requires
+    returns
+    by-division64-requires
+    returns-2
+    steps64-requires-2
+    returns-3)

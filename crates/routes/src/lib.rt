@@ -1,0 +1,69 @@
+// x times 2^e modulo y, for significands x and y: the route is chosen by e.
+ghost use mathlib.Core.Path.{_≡_};
+ghost use mathlib.Core.Bool.{cond};
+ghost use Prim.Native.Nat.{_*_, _/_, _%_, _≤_, _<_, _^_};
+ghost use lib.Dec.{leb};
+use division::div;
+use shift::above;
+use stepwise::steps32;
+use stepwise::steps64;
+use words::Wide;
+
+// x as it is where it is below twice y, as the routes ask, and else what y leaves of it, which happens for subnormal y alone.
+fn below_twice(x: u64, y: u64) -> u64
+    requires { ⌜ (0 < y) × (y < 2 ^ 62) ⌝ }
+    ensures { λ r. ⌜ r ≡ cond (leb (2 * y) x) (x % y) x ⌝ }
+{
+    if x >= 2 * y {
+        return x % y;
+    }
+    x
+}
+
+// One division. x is below twice y and e below the bits of a word, so that the quotient is one word.
+pub fn by_division64(x: u64, e: u32, y: u64) -> u64
+    requires { ⌜ (x < 2 * y) × (e < 64) ⌝ }
+    ensures { λ r. ⌜ r ≡ x * 2 ^ e % y ⌝ }
+{
+    let w = Wide {
+        hi: above(x, e),
+        lo: x << e,
+    };
+    let d = div(w, y);
+    d.remainder
+}
+
+// The same of words of 32 bits, by the machine's own division: the quotient is below 2^32.
+pub fn by_division32(x: u32, e: u32, y: u32) -> u32
+    requires { ⌜ (x < 2 * y) × (e < 32) ⌝ }
+    ensures { λ r. ⌜ (r ≡ x * 2 ^ e % y) × (x * 2 ^ e / y < 2 ^ 32) ⌝ }
+{
+    let wide: u64 = (x as u64) << e;
+    (wide % y as u64) as u32
+}
+
+// A few steps cost less than a division, and a division less than the reducer's first round.
+pub fn reduction64(x: u64, e: u32, y: u64) -> u64
+    requires { ⌜ (0 < y) × (y < 2 ^ 62) × (e ≤ 4096) ⌝ }
+    ensures { λ r. ⌜ r ≡ x * 2 ^ e % y ⌝ }
+{
+    let near = below_twice(x, y);
+    if e < 32 {
+        return steps64(near, e, y);
+    }
+    if e < 64 {
+        return by_division64(near, e, y);
+    }
+    steps64(near, e, y)
+}
+
+pub fn reduction32(x: u32, e: u32, y: u32) -> u32
+    requires { ⌜ (0 < y) × (y < 2 ^ 30) × (e ≤ 4096) ⌝ }
+    ensures { λ r. ⌜ r ≡ x * 2 ^ e % y ⌝ }
+{
+    let near = below_twice(x as u64, y as u64) as u32;
+    if e < 32 {
+        return by_division32(near, e, y);
+    }
+    steps32(near, e, y)
+}
