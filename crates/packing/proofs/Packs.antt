@@ -12,6 +12,7 @@ use Rattle.ieee.specs.Format.{Format, top, inf, units}
 use Rattle.ieee.specs.Round.{even, exactly}
 use Rattle.ieee.proofs.Units.{units-at, units-lt-inv}
 use Rattle.ieee.proofs.Fixed.{fixed-whole, below-reach}
+use Rattle.ieee.proofs.Held.{exact}
 use Rattle.ieee.proofs.Patterns.{inf-below-top}
 use Rattle.fields.specs.Width.{format, Fits}
 use Rattle.fields.proofs.Widths.{extra-bits}
@@ -141,3 +142,7 @@ module _ {p e : ℕ} (w : Fits p e) (s up : ℕ) (fits : s * 2 ^ up < units (for
     high-packed l =
         let (q, b) = exactly-packed (format p e) (s * 2 ^ most) (up - most) (s * 2 ^ up) (place .room) (λ z. place .filled) (omega (arith, times s (pow-diff {a = up} {b = most} (omega arith)))) fits in
         (omega (arith, place .room, word-room), q, omega (arith, b, inf-below-top (format p e), pow-mono {i = p + e} {j = 63} (w .word)))
+
+-- what is packed is finite
+pub exactly-below : (f : Format) (s up : ℕ) → s < 2 * 2 ^ f .frac → s * 2 ^ up < units f (inf f) → exactly f (s * 2 ^ up) < inf f
+exactly-below f s up l h = units-lt-inv f (exactly f (s * 2 ^ up)) (inf f) (omega (arith, exact f even up s l h))

@@ -1,6 +1,6 @@
 -- x times 2 ^ e modulo y, by what is left of x, and the quotient where x is below twice y. Assumes nothing.
-use Prim.Native.Nat.{ℕ, suc, _+_, _*_, _/_, _%_, _^_, _≤_, _<_}
-use mathlib.Core.Path.{_≡_, sym, ap, _∙_}
+use Prim.Native.Nat.{ℕ, suc, _*_, _/_, _%_, _^_, _≤_, _<_}
+use mathlib.Core.Path.{_≡_, ap, _∙_}
 use mathlib.Core.Bool.{cond}
 use native.Mathlib.Nat.{two-pow-succ, mod-lt, div-add-mod'}
 use native.Mathlib.Omega.{arith}
@@ -8,7 +8,7 @@ use lib.Dec.{leb}
 use lib.Pow.{pow-pos, pow-mono}
 use borrow.Author.Tests.{le-leb, lt-leb}
 use Rattle.algebra.proofs.Products.{order, times-le, mul-lt-cancel}
-use Rattle.algebra.proofs.Quotients.{div-mod, mod-is, mod-scale}
+use Rattle.algebra.proofs.Quotients.{mod-scale}
 
 -- what is left of x, or x itself, is below twice y and has the same remainders
 pub near-is : (x y : ℕ) → 0 < y → (r : ℕ) → r ≡ cond (leb (2 * y) x) (x % y) x → (r < 2 * y) × ((e : ℕ) → r * 2 ^ e % y ≡ x * 2 ^ e % y)
