@@ -4,8 +4,9 @@ ghost use mathlib.Core.Bool.{cond};
 ghost use Prim.Native.Nat.{_*_, _/_, _%_, _≤_, _<_, _^_};
 ghost use lib.Dec.{leb};
 use division::div;
+use modular32::linear_mul_reduction32;
+use modular64::linear_mul_reduction64;
 use shift::above;
-use stepwise::steps32;
 use stepwise::steps64;
 use words::Wide;
 
@@ -54,7 +55,7 @@ pub fn reduction64(x: u64, e: u32, y: u64) -> u64
     if e < 64 {
         return by_division64(near, e, y);
     }
-    steps64(near, e, y)
+    linear_mul_reduction64(near, e, y)
 }
 
 pub fn reduction32(x: u32, e: u32, y: u32) -> u32
@@ -65,5 +66,5 @@ pub fn reduction32(x: u32, e: u32, y: u32) -> u32
     if e < 32 {
         return by_division32(near, e, y);
     }
-    steps32(near, e, y)
+    linear_mul_reduction32(near, e, y)
 }

@@ -18,7 +18,7 @@ returns : tie.Need-returns
 returns c = let o = c .before .before in omega (arith, c .by-division32 .ensures .0, near o .1 (s o .args .e))
 
 returns-2 : tie.Need-returns-2
-returns-2 c = let o = c .before .before in omega (arith, c .steps32 .ensures, near o .1 (s o .args .e))
+returns-2 c = let o = c .before .before in omega (arith, c .linear-mul-reduction32 .ensures, near o .1 (s o .args .e))
 
 below-twice-requires : tie.Need-below-twice-requires
 below-twice-requires c κs = search needs
@@ -29,8 +29,8 @@ cast-near c = record { fits = omega (arith, near c .0) }
 by-division32-requires : tie.Need-by-division32-requires
 by-division32-requires c κs = (near (c .before) .0, omega arith)
 
-steps32-requires : tie.Need-steps32-requires
-steps32-requires c κs = (near (c .before) .0, omega arith)
+linear-mul-reduction32-requires : tie.Need-linear-mul-reduction32-requires
+linear-mul-reduction32-requires c κs = (near (c .before) .0, omega arith, omega arith)
 
 pub reduction32-spec : {M : Type 1} → statement M
-reduction32-spec = tie.close (tie.spec below-twice-requires cast-near by-division32-requires returns steps32-requires returns-2)
+reduction32-spec = tie.close (tie.spec below-twice-requires cast-near by-division32-requires returns linear-mul-reduction32-requires returns-2)

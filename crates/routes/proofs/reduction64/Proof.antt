@@ -21,7 +21,7 @@ returns-2 : tie.Need-returns-2
 returns-2 c = let o = c .before .before .before in omega (arith, c .by-division64 .ensures, near o .1 (s o .args .e))
 
 returns-3 : tie.Need-returns-3
-returns-3 c = let o = c .before .before .before in omega (arith, c .steps642 .ensures, near o .1 (s o .args .e))
+returns-3 c = let o = c .before .before .before in omega (arith, c .linear-mul-reduction64 .ensures, near o .1 (s o .args .e))
 
 below-twice-requires : tie.Need-below-twice-requires
 below-twice-requires c κs = search needs
@@ -32,8 +32,8 @@ steps64-requires c κs = (near (c .before) .0, omega arith)
 by-division64-requires : tie.Need-by-division64-requires
 by-division64-requires c κs = (near (c .before .before) .0, omega arith)
 
-steps64-requires-2 : tie.Need-steps64-requires-2
-steps64-requires-2 c κs = (near (c .before .before) .0, omega arith)
+linear-mul-reduction64-requires : tie.Need-linear-mul-reduction64-requires
+linear-mul-reduction64-requires c κs = (near (c .before .before) .0, omega arith, omega arith)
 
 pub reduction64-spec : {M : Type 1} → statement M
 reduction64-spec =
@@ -44,5 +44,5 @@ reduction64-spec =
     returns
     by-division64-requires
     returns-2
-    steps64-requires-2
+    linear-mul-reduction64-requires
     returns-3)
