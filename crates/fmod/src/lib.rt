@@ -31,13 +31,11 @@ pub fn fmod64(x: u64, y: u64) -> u64
     if no_remainder(52, 11, x, y) {
         return 0x7ff8000000000000;
     }
-    let m = x % 0x8000000000000000;
-    let k = y % 0x8000000000000000;
-    if m < k {
+    if x % 0x8000000000000000 < y % 0x8000000000000000 {
         return x;
     }
-    let a = into_sig_exp(52, 11, m);
-    let b = into_sig_exp(52, 11, k);
+    let a = into_sig_exp(52, 11, x % 0x8000000000000000);
+    let b = into_sig_exp(52, 11, y % 0x8000000000000000);
     let left = reduction64(a.sig, a.exp - b.exp, b.sig);
     finished(52, 11, x, left, b.exp)
 }
@@ -48,13 +46,11 @@ pub fn fmod32(x: u32, y: u32) -> u32
     if no_remainder(23, 8, x as u64, y as u64) {
         return 0x7fc00000;
     }
-    let m = x % 0x80000000;
-    let k = y % 0x80000000;
-    if m < k {
+    if x % 0x80000000 < y % 0x80000000 {
         return x;
     }
-    let a = into_sig_exp(23, 8, m as u64);
-    let b = into_sig_exp(23, 8, k as u64);
+    let a = into_sig_exp(23, 8, (x % 0x80000000) as u64);
+    let b = into_sig_exp(23, 8, (y % 0x80000000) as u64);
     let left = reduction32(a.sig as u32, a.exp - b.exp, b.sig as u32);
     finished(23, 8, x as u64, left as u64, b.exp) as u32
 }

@@ -12,7 +12,7 @@ module _ (c : tie.After-below-twice) where
   s = c .before
 
   near : (c .below-twice .result < 2 * s .args .y) × ((e : ℕ) → c .below-twice .result * 2 ^ e % s .args .y ≡ s .args .x * 2 ^ e % s .args .y)
-  near = near-is (s .args .x) (s .args .y) (s .pre .0) (c .below-twice .result) (c .below-twice .ensures)
+  near = near-is (s .args .x) (s .args .y) (s .pre .0) (c .below-twice .result) (omega (arith, c .below-twice .ensures))
 
 returns : tie.Need-returns
 returns c = let o = c .before .before in omega (arith, c .by-division32 .ensures .0, near o .1 (s o .args .e))
