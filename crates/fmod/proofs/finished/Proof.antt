@@ -1,6 +1,6 @@
 -- What is packed is finite (Packs), so that its sign goes above it. Assumes nothing.
 use Prim.Native.Nat.{_*_, _^_, _<_}
-use mathlib.Core.Path.{ap₂, _∙_}
+use mathlib.Core.Path.{ap₂}
 use native.Mathlib.Omega.{arith}
 use borrow.Author.Needs.{needs}
 use lib.Pow.{pow-add}
@@ -14,7 +14,7 @@ use Rattle.fmod.proofs.finished.Tie as tie
 returns : tie.Need-returns
 returns c =
     let a = c .before .before .before .args in
-    c .with-sign .ensures ∙ ap₂ (signed (format (a .frac) (a .expo))) (c .before .is-negative .ensures) (c .before .before .packed .ensures)
+    omega (arith, c .with-sign .ensures, ap₂ (signed (format (a .frac) (a .expo))) (c .before .is-negative .ensures) (c .before .before .packed .ensures))
 
 packed-requires : tie.Need-packed-requires
 packed-requires c κs = search needs

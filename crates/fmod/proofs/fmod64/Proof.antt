@@ -1,6 +1,6 @@
 -- Where there is no remainder the answer is the canonical NaN, a lesser x stays, and else the significands are reduced (Fmods). Assumes nothing.
-use mathlib.Core.Path.{_≡_, sym, _∙_}
-use mathlib.Core.Bool.{false}
+use mathlib.Core.Path.{_≡_}
+use mathlib.Core.Bool.{true, false}
 use native.Mathlib.Omega.{arith}
 use borrow.Author.Needs.{needs}
 use Rattle.ieee.specs.Format.{b64}
@@ -10,11 +10,14 @@ use Rattle.fmod.proofs.Fmods.{fmod-none, lesser-stays, Finishes, Reduce
 use Rattle.fmod.proofs.fmod64.Statement.{statement}
 use Rattle.fmod.proofs.fmod64.Tie as tie
 
+has-none : (c : tie.Then1) → noRemainder b64 (c .before .before .args .x) (c .before .before .args .y) ≡ true
+has-none c = cc (c .before .no-remainder .ensures, c .if1 .taken)
+
 returns : tie.Need-returns
-returns c = let s = c .before .before in omega (arith, fmod-none b64 (s .args .x) (s .args .y) (sym (c .before .no-remainder .ensures) ∙ c .if1 .taken))
+returns c = let s = c .before .before in omega (arith, fmod-none b64 (s .args .x) (s .args .y) (has-none c))
 
 has-remainder : (c : tie.Else1) → noRemainder b64 (c .before .before .args .x) (c .before .before .args .y) ≡ false
-has-remainder c = sym (c .before .no-remainder .ensures) ∙ c .if1 .left
+has-remainder c = cc (c .before .no-remainder .ensures, c .if1 .left)
 
 returns-2 : tie.Need-returns-2
 returns-2 c = let s = c .before .before .before in omega (arith, lesser-stays fits64 (s .args .x) (s .args .y) (has-remainder (c .before)) (s .fits .x .fits) (omega (arith, c .if2 .taken)))

@@ -1,18 +1,21 @@
 -- The two words are x times 2^e, and the upper one is below y, so that the division leaves the remainder (Routes). Assumes nothing.
-use Prim.Native.Nat.{_*_, _^_}
-use mathlib.Core.Path.{sym}
+use Prim.Native.Nat.{ℕ, _*_, _^_}
 use native.Mathlib.Omega.{arith}
 use borrow.Author.Needs.{needs}
-use Rattle.algebra.proofs.Quotients.{mod-is}
-use Rattle.routes.proofs.Routes.{upper-below}
+use Rattle.routes.proofs.Routes.{upper-below, words-leave}
 use Rattle.routes.proofs.by_division64.Statement.{statement}
 use Rattle.routes.proofs.by_division64.Tie as tie
 
+-- What `c` knows has numbers past omega's bound: its name is taken, so that omega reads the goal and the fact before it alone.
 returns : tie.Need-returns
 returns c =
-    let s = c .before .before in
+    let a = c .before .before .args in
     let d = c .div .ensures in
-    sym (mod-is (s .args .x * 2 ^ s .args .e) (s .args .y) (c .div .result .quotient) (c .div .result .remainder) (d .1) (omega (arith, d .0, c .before .above .ensures)))
+    let left =
+    words-leave (2 ^ 64) (a .x * 2 ^ a .e) (a .y) _ _ (c .div .result .quotient) (c .div .result .remainder) (let e = c .before .above .ensures in let c : ℕ = 0 in omega arith) (let c : ℕ = 0 in omega arith) (d .0) (d .1) in
+    let c : ℕ = 0 in
+    let d : ℕ = 0 in
+    omega (arith, left)
 
 div-requires : tie.Need-div-requires
 div-requires c κs = let s = c .before in omega (arith, c .above .ensures, upper-below 64 (s .args .x) (s .args .e) (s .args .y) (s .pre .0) (s .pre .1))

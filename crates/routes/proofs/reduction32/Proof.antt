@@ -27,10 +27,10 @@ cast-near : tie.Need-cast-near
 cast-near c = record { fits = omega (arith, near c .0) }
 
 by-division32-requires : tie.Need-by-division32-requires
-by-division32-requires c κs = (near (c .before) .0, omega arith)
+by-division32-requires c κs = (omega (arith, near (c .before) .0), omega arith)
 
 linear-mul-reduction32-requires : tie.Need-linear-mul-reduction32-requires
-linear-mul-reduction32-requires c κs = (near (c .before) .0, omega arith, omega arith)
+linear-mul-reduction32-requires c κs = (omega (arith, near (c .before) .0), omega arith, omega arith)
 
 pub reduction32-spec : {M : Type 1} → statement M
 reduction32-spec = tie.close (tie.spec below-twice-requires cast-near by-division32-requires returns linear-mul-reduction32-requires returns-2)

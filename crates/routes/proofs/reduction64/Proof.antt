@@ -27,13 +27,13 @@ below-twice-requires : tie.Need-below-twice-requires
 below-twice-requires c κs = search needs
 
 steps64-requires : tie.Need-steps64-requires
-steps64-requires c κs = (near (c .before) .0, omega arith)
+steps64-requires c κs = (omega (arith, near (c .before) .0), omega arith)
 
 by-division64-requires : tie.Need-by-division64-requires
-by-division64-requires c κs = (near (c .before .before) .0, omega arith)
+by-division64-requires c κs = (omega (arith, near (c .before .before) .0), omega arith)
 
 linear-mul-reduction64-requires : tie.Need-linear-mul-reduction64-requires
-linear-mul-reduction64-requires c κs = (near (c .before .before) .0, omega arith, omega arith)
+linear-mul-reduction64-requires c κs = (omega (arith, near (c .before .before) .0), omega arith, omega arith)
 
 pub reduction64-spec : {M : Type 1} → statement M
 reduction64-spec =
