@@ -1,0 +1,4 @@
+pub mod Ratios
+pub mod Nearest
+pub mod Apart
+pub mod Kept

@@ -1,0 +1,24 @@
+-- Where there is no remainder the answer is the canonical NaN, and else that of the format (Kept). Assumes nothing.
+use mathlib.Core.Path.{sym, _∙_}
+use native.Mathlib.Omega.{arith}
+use borrow.Author.Needs.{needs}
+use Rattle.ieee.specs.Format.{b64}
+use Rattle.fields.proofs.Widths.{fits64}
+use Rattle.remquo.proofs.Kept.{none-left}
+use Rattle.remquo.proofs.remquo64.Statement.{statement}
+use Rattle.remquo.proofs.remquo64.Tie as tie
+
+returns : tie.Need-returns
+returns c = let s = c .before .before in none-left b64 (s .args .x) (s .args .y) (sym (c .before .no-remainder .ensures) ∙ c .if1 .taken)
+
+returns-2 : tie.Need-returns-2
+returns-2 c = search needs
+
+no-remainder-requires : tie.Need-no-remainder-requires
+no-remainder-requires c κs = fits64
+
+of-finite-requires : tie.Need-of-finite-requires
+of-finite-requires c κs = (fits64, omega arith, sym (c .before .no-remainder .ensures) ∙ c .if1 .left)
+
+pub remquo64-spec : {M : Type 1} → statement M
+remquo64-spec = tie.close (tie.spec no-remainder-requires returns of-finite-requires returns-2)

@@ -1,0 +1,81 @@
+// remquo: what is left of x by the nearest whole multiple of y, and that multiple's number modulo 2^31.
+ghost use mathlib.Core.Path.{_≡_};
+ghost use mathlib.Core.Bool.{false};
+ghost use Prim.Native.Nat.{_<_};
+ghost use Rattle.ieee.specs.Format.{b64, inf};
+ghost use Rattle.ieee.specs.Pattern.{Pattern, magnitude};
+ghost use Rattle.ieee.specs.Remquo.{remquoOf, quotientOf};
+ghost use Rattle.fields.specs.Width.{format, Fits};
+ghost use Rattle.sorting.specs.Rows.{noRemainder};
+use crate::answer::Remquo64;
+use fields::is_negative;
+use longdiv::divided;
+use settling::Remquo;
+use settling::settled;
+use shift::pow;
+use significands::ahead;
+use significands::normal;
+use sorting::no_remainder;
+
+pub mod answer;
+
+// Two numbers that are not zero. Where x is below half of y it is all left. One exponent below y's it is less than y, whose significand then counts twice.
+fn of_numbers(frac: u32, expo: u32, x: u64, y: u64) -> Remquo
+    requires { ⌜ Fits frac expo × Pattern (format frac expo) x × (0 < magnitude (format frac expo) x) × (magnitude (format frac expo) x < inf (format frac expo)) × (0 < magnitude (format frac expo) y) × (magnitude (format frac expo) y < inf (format frac expo)) ⌝ }
+    ensures { λ r. ⌜ (r .value ≡ remquoOf (format frac expo) x y) × (r .quotient ≡ quotientOf (format frac expo) x y) ⌝ }
+{
+    let a = normal(frac, expo, x);
+    let b = normal(frac, expo, y);
+    let far = ahead(a.exp, b.exp);
+    if far == 0 {
+        return Remquo {
+            value: x,
+            quotient: 0,
+        };
+    }
+    let neg = is_negative(frac, expo, x);
+    let differ = neg != is_negative(frac, expo, y);
+    if far == 1 {
+        return settled(frac, expo, neg, differ, a.sig, b.sig * 2, 0, a.exp);
+    }
+    let d = divided(a.sig, b.sig, far - 2);
+    settled(frac, expo, neg, differ, d.rem, b.sig, d.quo, b.exp)
+}
+
+// A finite x, and y not a zero: by an infinite y all of x is left, and of a zero too.
+fn of_finite(frac: u32, expo: u32, x: u64, y: u64) -> Remquo
+    requires { ⌜ Fits frac expo × Pattern (format frac expo) x × (noRemainder (format frac expo) x y ≡ false) ⌝ }
+    ensures { λ r. ⌜ (r .value ≡ remquoOf (format frac expo) x y) × (r .quotient ≡ quotientOf (format frac expo) x y) ⌝ }
+{
+    let top = pow(frac + expo);
+    let inf = top - pow(frac);
+    if y % top == inf {
+        return Remquo {
+            value: x,
+            quotient: 0,
+        };
+    }
+    if x % top == 0 {
+        return Remquo {
+            value: x,
+            quotient: 0,
+        };
+    }
+    of_numbers(frac, expo, x, y)
+}
+
+pub fn remquo64(x: u64, y: u64) -> Remquo64
+    ensures { λ r. ⌜ (r .value ≡ remquoOf b64 x y) × (r .quotient ≡ quotientOf b64 x y) ⌝ }
+{
+    if no_remainder(52, 11, x, y) {
+        return Remquo64 {
+            value: 0x7ff8000000000000,
+            quotient: 0,
+        };
+    }
+    let r = of_finite(52, 11, x, y);
+    Remquo64 {
+        value: r.value,
+        quotient: r.quotient,
+    }
+}
