@@ -1,10 +1,24 @@
 // The face: the operations, re-exported, and the same as plain C functions on whole numbers.
 ghost use mathlib.Core.Path.{_≡_};
 ghost use Rattle.ieee.specs.Format.{b64, b32};
+ghost use Rattle.ieee.specs.Fmod.{fmodOf};
+ghost use Rattle.ieee.specs.Reduction.{reduceOf};
+ghost use Rattle.ieee.specs.Refusal.{numberOf, valueOf};
+ghost use Rattle.ieee.specs.Remquo.{remquoOf, quotientOf};
 ghost use Rattle.ieee.specs.Scalbn.{scalbnOf};
 ghost use Rattle.ieee.specs.Whole.{truncOf, truncStatus, floorOf, floorStatus};
 pub use env::FpResult32;
 pub use env::FpResult64;
+pub use fmod::fmod32;
+pub use fmod::fmod64;
+pub use reduction::Reduced32;
+pub use reduction::Reduced64;
+pub use reduction::reduce::reduce32;
+pub use reduction::reduce::reduce64;
+pub use refusals::at32::refusal32;
+pub use refusals::at64::refusal64;
+pub use remquo::answer::Remquo64;
+pub use remquo::remquo64;
 pub use scale::scalbn::scalbn32;
 pub use scale::scalbn::scalbn64;
 pub use whole::floor::floor32;
@@ -87,4 +101,60 @@ pub extern "C" fn pk_scalbn32(x: u32, n: i32) -> u32
     ensures { λ r. ⌜ r ≡ scalbnOf b32 x n ⌝ }
 {
     scalbn32(x, n)
+}
+
+#[no_mangle]
+pub extern "C" fn pk_fmod64(x: u64, y: u64) -> u64
+    ensures { λ r. ⌜ r ≡ fmodOf b64 x y ⌝ }
+{
+    fmod64(x, y)
+}
+
+#[no_mangle]
+pub extern "C" fn pk_fmod32(x: u32, y: u32) -> u32
+    ensures { λ r. ⌜ r ≡ fmodOf b32 x y ⌝ }
+{
+    fmod32(x, y)
+}
+
+#[no_mangle]
+pub extern "C" fn pk_remquo64(x: u64, y: u64) -> u64
+    ensures { λ r. ⌜ r ≡ remquoOf b64 x y ⌝ }
+{
+    remquo64(x, y).value
+}
+
+#[no_mangle]
+pub extern "C" fn pk_remquo64_quotient(x: u64, y: u64) -> i32
+    ensures { λ r. ⌜ r ≡ quotientOf b64 x y ⌝ }
+{
+    remquo64(x, y).quotient
+}
+
+#[no_mangle]
+pub extern "C" fn pk_reduce64(x: u64, e: u32, y: u64) -> u64
+    ensures { λ r. ⌜ r ≡ valueOf (reduceOf 64 x e y) ⌝ }
+{
+    reduce64(x, e, y).value
+}
+
+#[no_mangle]
+pub extern "C" fn pk_reduce64_refusal(x: u64, e: u32, y: u64) -> u32
+    ensures { λ r. ⌜ r ≡ numberOf (reduceOf 64 x e y) ⌝ }
+{
+    refusal64(x, e, y)
+}
+
+#[no_mangle]
+pub extern "C" fn pk_reduce32(x: u32, e: u32, y: u32) -> u32
+    ensures { λ r. ⌜ r ≡ valueOf (reduceOf 32 x e y) ⌝ }
+{
+    reduce32(x, e, y).value
+}
+
+#[no_mangle]
+pub extern "C" fn pk_reduce32_refusal(x: u32, e: u32, y: u32) -> u32
+    ensures { λ r. ⌜ r ≡ numberOf (reduceOf 32 x e y) ⌝ }
+{
+    refusal32(x, e, y)
 }
