@@ -5,12 +5,18 @@
 #![cfg_attr(not(test), no_main)]
 #![cfg_attr(test, allow(dead_code))]
 
+#[cfg(test)]
+mod faults;
 mod kinds;
+mod numbers;
 mod quick;
 mod record;
+mod reductions;
+mod remainders;
 mod request;
 mod run;
 mod table;
+mod tally;
 
 // The plain program's modules: its exact answers, its boundary cases and the line format.
 #[allow(dead_code)]

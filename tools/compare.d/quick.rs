@@ -1,42 +1,103 @@
-//! Drawn operands made by shifts and masks alone, so that millions take a moment. Each kind is built on purpose.
+//! Drawn operands made by shifts and masks alone, so that millions take a moment. Each kind is built on purpose and has a
+//! name, under which a run counts it. Here are the kinds of the operations on one pattern, and what all kinds draw from.
 
 use crate::format::Format;
 use crate::random::Random;
 use crate::request::Request;
 
-/// Operands of floor and trunc: numbers about the integers at every exponent, then patterns of all classes.
-pub fn for_whole(format: Format, turn: u64, random: &mut Random) -> Request {
-    Request::word(match turn % 2 {
-        0 => near_integer(format, turn / 2, random),
-        _ => pattern(format, turn / 2, random),
-    })
+/// One kind of operands: its name, and how the next of them is drawn. The turn counts those of the kind.
+pub struct Draw {
+    pub kind: &'static str,
+    pub make: fn(Format, u64, &mut Random) -> Request,
 }
 
+pub const fn draw(kind: &'static str, make: fn(Format, u64, &mut Random) -> Request) -> Draw {
+    Draw { kind, make }
+}
+
+/// The first so many requests of one kind.
+#[cfg(test)]
+pub fn drawn(draws: &[Draw], kind: &str, format: Format, count: u64) -> Vec<Request> {
+    let mut random = Random::new(1, 1);
+    let make = draws.iter().find(|draw| draw.kind == kind).expect("a kind of the list").make;
+    (0..count).map(|turn| make(format, turn, &mut random)).collect()
+}
+
+/// Operands of floor and trunc: numbers about the integers at every exponent, then patterns of all classes.
+pub static FOR_WHOLE: [Draw; 2] = [
+    draw("beside an integer", |f, turn, random| Request::word(near_integer(f, turn, random))),
+    draw("all classes", |f, turn, random| Request::word(pattern(f, turn, random))),
+];
+
 /// Operands of scalbn: every class of x, and powers that send it to where something changes.
-pub fn for_scaling(format: Format, turn: u64, random: &mut Random) -> Request {
+pub static FOR_SCALING: [Draw; 9] = [
+    draw("n about 0", |f, turn, random| scaled(f, turn, random, about_zero)),
+    draw("n of the format's range", |f, turn, random| scaled(f, turn, random, as_far_as_the_field)),
+    draw("subnormal results", |f, turn, random| scaled(f, turn, random, to_the_subnormals)),
+    draw("ties, and beside them", |f, turn, random| scaled(f, turn, random, to_a_tie)),
+    draw("ties with a tail", |f, turn, random| scaled(f, turn, random, to_a_tie_with_a_tail)),
+    draw("about the greatest exponent", |f, turn, random| scaled(f, turn, random, to_the_greatest)),
+    draw("steps of a routine", |f, turn, random| scaled(f, turn, random, by_steps)),
+    draw("n at its ends", |f, turn, random| scaled(f, turn, random, to_the_ends)),
+    draw("n of every length", |f, turn, random| scaled(f, turn, random, of_every_length)),
+];
+
+/// x of any class, and the power that `power` gives for the exponents of its first and its last digit.
+fn scaled(
+    format: Format,
+    turn: u64,
+    random: &mut Random,
+    power: fn(Format, (i32, i32), &mut Random) -> i32,
+) -> Request {
+    let x = if random.coin() { near_step(format, random) } else { pattern(format, turn, random) };
+    Request::word_and_number(x, power(format, ends(format, x), random))
+}
+
+fn half_unit(format: Format) -> i32 {
+    -(format.unit_shift() as i32) - 1
+}
+
+fn about_zero(_: Format, _: (i32, i32), random: &mut Random) -> i32 {
+    random.between(-3, 3)
+}
+
+fn to_the_ends(_: Format, _: (i32, i32), random: &mut Random) -> i32 {
+    random.pick(&[i32::MIN, i32::MIN + 1, i32::MAX, i32::MAX - 1, 1 << 30, -1 << 16])
+}
+
+fn of_every_length(_: Format, _: (i32, i32), random: &mut Random) -> i32 {
+    random.word() as i32 >> random.below(32)
+}
+
+/// As far as the field reaches, and a little further.
+fn as_far_as_the_field(format: Format, _: (i32, i32), random: &mut Random) -> i32 {
+    let far = 2 * format.bias() as i32 + format.fraction_bits as i32 + 4;
+    random.between(-far, far)
+}
+
+/// The result is subnormal, or has just ceased to be.
+fn to_the_subnormals(format: Format, (top, _): (i32, i32), random: &mut Random) -> i32 {
+    half_unit(format) + random.between(-2, format.fraction_bits as i32 + 3) - top
+}
+
+/// The last digit set comes to stand at half the smallest unit, or next to it: ties and what is beside them.
+fn to_a_tie(format: Format, (_, last): (i32, i32), random: &mut Random) -> i32 {
+    half_unit(format) + random.pick(&[-1, 0, 0, 1]) - last
+}
+
+/// So does another digit, with what is set below it for a tail.
+fn to_a_tie_with_a_tail(format: Format, (top, last): (i32, i32), random: &mut Random) -> i32 {
+    half_unit(format) - random.between(last.min(top), top)
+}
+
+fn to_the_greatest(format: Format, (top, _): (i32, i32), random: &mut Random) -> i32 {
+    format.bias() as i32 + random.between(-1, 2) - top
+}
+
+/// Steps in which a routine may scale.
+fn by_steps(format: Format, _: (i32, i32), random: &mut Random) -> i32 {
     let (bias, digits) = (format.bias() as i32, format.fraction_bits as i32);
-    let x =
-        if random.coin() { near_step(format, random) } else { pattern(format, turn / 9, random) };
-    let half_unit = -(format.unit_shift() as i32) - 1;
-    let (top, last) = ends(format, x);
-    let n = match turn % 9 {
-        0 => random.between(-3, 3),
-        // As far as the field reaches, and a little further.
-        1 => random.between(-2 * bias - digits - 4, 2 * bias + digits + 4),
-        // The result is subnormal, or has just ceased to be.
-        2 => half_unit + random.between(-2, digits + 3) - top,
-        // The last digit set comes to stand at half the smallest unit, or next to it: ties and what is beside them.
-        3 => half_unit + random.pick(&[-1, 0, 0, 1]) - last,
-        // So does another digit, with what is set below it for a tail.
-        4 => half_unit - random.between(last.min(top), top),
-        // About the greatest exponent.
-        5 => bias + random.between(-1, 2) - top,
-        // Steps in which a routine may scale.
-        6 => random.between(-3, 3) * bias + random.between(-digits - 2, digits + 2),
-        7 => random.pick(&[i32::MIN, i32::MIN + 1, i32::MAX, i32::MAX - 1, 1 << 30, -1 << 16]),
-        _ => random.word() as i32 >> random.below(32),
-    };
-    Request::word_and_number(x, n)
+    random.between(-3, 3) * bias + random.between(-digits - 2, digits + 2)
 }
 
 /// A number about the least, the middle or the greatest exponent: a routine that scales in steps of the whole range then
@@ -71,7 +132,7 @@ fn near_integer(format: Format, turn: u64, random: &mut Random) -> u64 {
 }
 
 /// Any pattern, the awkward ones made frequent: every class, every exponent, subnormals of every length.
-fn pattern(format: Format, turn: u64, random: &mut Random) -> u64 {
+pub fn pattern(format: Format, turn: u64, random: &mut Random) -> u64 {
     let fields = format.exponent_field(format.infinity()) as u64;
     let field = random.below(fields) << format.fraction_bits;
     let magnitude = match turn % 5 {
@@ -85,7 +146,7 @@ fn pattern(format: Format, turn: u64, random: &mut Random) -> u64 {
 }
 
 /// Magnitudes at the ends of the classes, and NaNs of both sorts.
-fn special(format: Format, random: &mut Random) -> u64 {
+pub fn special(format: Format, random: &mut Random) -> u64 {
     let (infinity, normal) = (format.infinity(), format.smallest_normal());
     let quiet = format.canonical_nan();
     let payload = random.word() & (normal - 1);
@@ -110,7 +171,7 @@ fn special(format: Format, random: &mut Random) -> u64 {
 }
 
 /// A fraction field: none, one digit, runs of ones from either end, or any.
-fn fraction(format: Format, random: &mut Random) -> u64 {
+pub fn fraction(format: Format, random: &mut Random) -> u64 {
     let all = format.smallest_normal() - 1;
     let place = random.below(format.fraction_bits.into());
     let low = (1u64 << place) - 1;
@@ -118,6 +179,6 @@ fn fraction(format: Format, random: &mut Random) -> u64 {
     random.pick(&[0, 1, all, 1 << place, low, all & !low, any, any & !low])
 }
 
-fn sign(format: Format, random: &mut Random) -> u64 {
+pub fn sign(format: Format, random: &mut Random) -> u64 {
     if random.coin() { format.sign_bit() } else { 0 }
 }

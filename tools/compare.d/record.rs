@@ -2,8 +2,9 @@
 
 use crate::kinds::{KINDS, explain};
 use crate::lines::{write_fields, write_request};
-use crate::run::{Run, Tally, operation_of, requests};
+use crate::run::{Run, operation_of, requests};
 use crate::table::{Nans, Row};
+use crate::tally::Tally;
 use std::collections::HashSet;
 use std::io::Write;
 
@@ -12,7 +13,7 @@ use std::io::Write;
 pub fn print_lines(row: &Row, seed: u64, count: u64) {
     let operation = operation_of(row);
     let mut seen = HashSet::new();
-    for request in requests(row, seed, count) {
+    for (_, request) in requests(row, seed, count) {
         if seen.len() as u64 == count {
             break;
         }

@@ -25,14 +25,29 @@ impl Request {
     pub fn word_and_number(x: u64, number: i32) -> Request {
         Request { words: [x, 0, 0], number: number.into(), ..Request::default() }
     }
+    pub fn two_words(x: u64, y: u64) -> Request {
+        Request { words: [x, y, 0], ..Request::default() }
+    }
+    pub fn reduction(x: u64, shift: u32, y: u64) -> Request {
+        Request { words: [x, y, 0], number: shift.into(), ..Request::default() }
+    }
     pub fn x(&self) -> u64 {
         self.words[0]
     }
     pub fn x32(&self) -> u32 {
         self.words[0] as u32
     }
+    pub fn y(&self) -> u64 {
+        self.words[1]
+    }
+    pub fn y32(&self) -> u32 {
+        self.words[1] as u32
+    }
     pub fn n(&self) -> i32 {
         self.number as i32
+    }
+    pub fn shift(&self) -> u32 {
+        self.number as u32
     }
 
     pub fn of_fields(fields: &[Field]) -> Request {
@@ -81,6 +96,13 @@ impl Answer {
     }
     pub fn both32((word, status): (u32, u32)) -> Answer {
         Answer::status(word.into(), status)
+    }
+
+    pub fn quotient((word, quotient): (u64, i32)) -> Answer {
+        Answer { word, number: quotient.into(), ..Answer::default() }
+    }
+    pub fn refusal(number: u32, word: u64) -> Answer {
+        Answer { word, number: number.into(), ..Answer::default() }
     }
 
     pub fn fields(&self, operation: &Operation) -> Vec<Field> {

@@ -8,10 +8,9 @@ use crate::operations::{self, Kind, Operation};
 use crate::random::Random;
 use crate::request::{Answer, Request};
 use crate::table::{Nans, Row};
-use std::collections::BTreeMap;
+use crate::tally::{Progress, Tally, kind_names};
 use std::panic::{AssertUnwindSafe, catch_unwind};
 use std::sync::Mutex;
-use std::time::{Duration, Instant};
 
 /// Differences beyond these are counted and not printed.
 const PRINTED: u64 = 10;
@@ -23,7 +22,8 @@ const MOST_BUILT: u64 = 20_000;
 pub enum Spoiled {
     Nothing,
     Ours,
-    Status,
+    /// What stands beside our word: a status, a quotient, a refusal.
+    Number,
     Crate,
 }
 
@@ -31,7 +31,7 @@ impl Spoiled {
     pub fn read(text: &str) -> Result<Spoiled, String> {
         match text {
             "ours" => Ok(Spoiled::Ours),
-            "status" => Ok(Spoiled::Status),
+            "number" => Ok(Spoiled::Number),
             "crate" => Ok(Spoiled::Crate),
             _ => Err(format!("nothing called '{text}' can be spoiled")),
         }
@@ -44,69 +44,6 @@ pub struct Run {
     /// What ours runs on, for the table.
     pub on: String,
     pub spoiled: Spoiled,
-}
-
-/// What one operation's run has found.
-pub struct Tally {
-    pub operation: &'static Operation,
-    /// How many operands, and from what seed, if any.
-    pub operands: String,
-    pub seed: String,
-    pub tried: u64,
-    pub unexplained: u64,
-    pub panics: u64,
-    pub explained: BTreeMap<&'static str, u64>,
-}
-
-impl Tally {
-    fn new(operation: &'static Operation, operands: String, seed: String) -> Tally {
-        Tally {
-            operation,
-            operands,
-            seed,
-            tried: 0,
-            unexplained: 0,
-            panics: 0,
-            explained: BTreeMap::new(),
-        }
-    }
-    pub fn is_clean(&self) -> bool {
-        self.unexplained == 0 && self.panics == 0
-    }
-    pub fn explained_text(&self) -> String {
-        let texts: Vec<String> =
-            self.explained.iter().map(|(entry, count)| format!("{count} {entry}")).collect();
-        if texts.is_empty() { "none".to_string() } else { texts.join(", ") }
-    }
-    fn close(self) -> Tally {
-        let (name, operands, seed) = (self.operation.name, &self.operands, &self.seed);
-        let (found, explained) = (self.unexplained, self.explained_text());
-        let panics =
-            if self.panics > 0 { format!("; {} panics", self.panics) } else { String::new() };
-        println!(
-            "{name}: {operands} operands, seed {seed}: {found} differences not explained, explained: {explained}{panics}"
-        );
-        self
-    }
-}
-
-/// A line on standard error every few seconds.
-struct Progress {
-    next: Instant,
-}
-
-impl Progress {
-    const EVERY: Duration = Duration::from_secs(10);
-
-    fn new() -> Progress {
-        Progress { next: Instant::now() + Progress::EVERY }
-    }
-    fn tell(&mut self, name: &str, done: u64, all: u64) {
-        if Instant::now() >= self.next {
-            self.next += Progress::EVERY;
-            eprintln!("compare: {name} {}%", done as u128 * 100 / all as u128);
-        }
-    }
 }
 
 /// What the last panic said, to be reported with the operands that led to it.
@@ -130,13 +67,18 @@ impl Run {
         let operation = operation_of(row);
         let mut tally = Tally::new(operation, count.to_string(), self.seed.to_string());
         let mut progress = Progress::new();
-        for (turn, request) in (0..count).zip(requests(row, self.seed, count)) {
+        tally.kinds = vec![0; kind_names(row).count()];
+        for (turn, (kind, request)) in (0..count).zip(requests(row, self.seed, count)) {
+            tally.kinds[kind] += 1;
             self.try_one(row, &request, &mut tally);
             if turn % 256 == 0 {
                 progress.tell(row.name, turn, count);
             }
         }
-        tally.close()
+        let kinds = tally.kinds_text(row);
+        let tally = tally.close();
+        println!("{}: of these {kinds}", row.name);
+        tally
     }
 
     /// Every pattern of a function of one 32-bit operand.
@@ -170,12 +112,11 @@ impl Run {
             }
             return;
         };
-        if self.spoiled != Spoiled::Nothing && tally.tried % 1000 == 0 {
-            match self.spoiled {
-                Spoiled::Ours => ours.word ^= 1,
-                Spoiled::Status => ours.number ^= 32,
-                _ => crates.word ^= 1,
-            }
+        if tally.tried % 1000 == 0 {
+            self.spoil(tally.operation, &mut ours, &mut crates);
+        }
+        if tally.operation.answer_kinds()[0] == Kind::Unsigned {
+            *tally.refusals.entry(ours.number).or_default() += 1;
         }
         if !same(row.nans, tally.operation, &ours, &crates) {
             report(request, &ours, &crates, tally);
@@ -183,8 +124,21 @@ impl Run {
     }
 }
 
+impl Run {
+    fn spoil(&self, operation: &Operation, ours: &mut Answer, crates: &mut Answer) {
+        match self.spoiled {
+            Spoiled::Nothing => {}
+            Spoiled::Ours => ours.word ^= 1,
+            Spoiled::Number => ours.number ^= 32,
+            // Any two NaNs may count as the same.
+            Spoiled::Crate if operation.format.is_nan(crates.word) => crates.word = 0,
+            Spoiled::Crate => crates.word ^= 1,
+        }
+    }
+}
+
 /// Whether two answers count as the same.
-fn same(nans: Nans, operation: &Operation, ours: &Answer, crates: &Answer) -> bool {
+pub fn same(nans: Nans, operation: &Operation, ours: &Answer, crates: &Answer) -> bool {
     let format = operation.format;
     let word_same = match nans == Nans::Equal && format.is_nan(crates.word) {
         true => ours.word == format.canonical_nan(),
@@ -217,11 +171,12 @@ fn report(request: &Request, ours: &Answer, crates: &Answer, tally: &mut Tally) 
     println!("difference: {request} -> {ours}; the crate gives {crates}; exact: {exact}");
 }
 
-/// The stream of requests: the plain program's grid in any order, at most half of the count, so that a short run too has
-/// all classes; some of its drawn boundary cases, which take longer to make; then the row's own draws.
-pub fn requests(row: &Row, seed: u64, count: u64) -> impl Iterator<Item = Request> {
+/// The stream of requests, each with its kind: the plain program's grid in any order, at most half of the count, so that
+/// a short run too has all classes; some of its drawn boundary cases, which take longer to make; then the row's own draws.
+pub fn requests(row: &Row, seed: u64, count: u64) -> impl Iterator<Item = (usize, Request)> {
     let operation = operation_of(row);
-    let (draw, format) = (row.draw, operation.format);
+    let (draws, format) = (row.draws, operation.format);
+    let kinds = draws.len() as u64;
     let mut random = Random::new(seed, 1000);
     let mut built = Requests::new(operation, seed);
     let mut grid: Vec<Request> =
@@ -230,8 +185,12 @@ pub fn requests(row: &Row, seed: u64, count: u64) -> impl Iterator<Item = Reques
     grid.truncate((count / 2) as usize);
     let boundaries =
         (0..(count / 20).min(MOST_BUILT)).map(move |_| Request::of_fields(&built.next()));
-    let drawn = (0..).map(move |turn| draw(format, turn, &mut random));
-    grid.into_iter().chain(boundaries).chain(drawn)
+    let drawn = (0..).map(move |turn: u64| {
+        let kind = (turn % kinds) as usize;
+        (kind + 2, (draws[kind].make)(format, turn / kinds, &mut random))
+    });
+    let grid = grid.into_iter().map(|request| (0, request));
+    grid.chain(boundaries.map(|request| (1, request))).chain(drawn)
 }
 
 #[cfg(test)]
@@ -269,9 +228,29 @@ mod tests {
         }
     }
     #[test]
+    fn every_kind_of_every_row_is_counted() {
+        let run = Run { seed: 1, on: String::new(), spoiled: Spoiled::Nothing };
+        for row in &crate::table::ROWS {
+            let tally = run.drawn(row, 3000);
+            assert!(tally.is_clean() && tally.kinds.iter().all(|count| *count > 0));
+            assert_eq!(tally.kinds.iter().sum::<u64>(), 3000);
+            let has_refusals = row.name.starts_with("reduce");
+            assert_eq!(tally.refusals.keys().eq([&0, &4, &5]), has_refusals);
+        }
+    }
+    #[test]
+    fn a_spoiled_side_is_seen_in_every_row() {
+        for spoiled in [Spoiled::Ours, Spoiled::Crate] {
+            let run = Run { seed: 1, on: String::new(), spoiled };
+            for row in &crate::table::ROWS {
+                assert_eq!(run.drawn(row, 5000).unexplained, 5, "{}", row.name);
+            }
+        }
+    }
+    #[test]
     fn fields_and_numbers_are_the_same_request() {
         for row in &crate::table::ROWS {
-            for request in requests(row, 1, 2000).take(2000) {
+            for (_, request) in requests(row, 1, 2000).take(2000) {
                 assert_eq!(Request::of_fields(&request.fields(operation_of(row))), request);
             }
         }

@@ -3,9 +3,9 @@
 //! The kinds of the operands and of the answer, a status among them or not, are those of docs/LINES.md, found by the name.
 //! A new operation is a new row here, its functions of the archive among those below, and a way to draw its operands.
 
-use crate::format::Format;
-use crate::quick;
-use crate::random::Random;
+use crate::quick::{Draw, FOR_SCALING, FOR_WHOLE};
+use crate::reductions::{FOR_REDUCTIONS, by_the_crate};
+use crate::remainders::FOR_REMAINDERS;
 use crate::request::{Answer, Request};
 use oracle::api;
 
@@ -21,7 +21,8 @@ pub enum Nans {
 pub struct Row {
     pub name: &'static str,
     pub nans: Nans,
-    pub draw: fn(Format, u64, &mut Random) -> Request,
+    /// The kinds of its operands, of which each turn takes the next.
+    pub draws: &'static [Draw],
     pub ours: fn(&Request) -> Answer,
     pub crates: fn(&Request) -> Answer,
 }
@@ -37,52 +38,107 @@ extern "C" {
     fn pk_floor32_status(x: u32) -> u32;
     fn pk_scalbn64(x: u64, n: i32) -> u64;
     fn pk_scalbn32(x: u32, n: i32) -> u32;
+    fn pk_fmod64(x: u64, y: u64) -> u64;
+    fn pk_fmod32(x: u32, y: u32) -> u32;
+    fn pk_remquo64(x: u64, y: u64) -> u64;
+    fn pk_remquo64_quotient(x: u64, y: u64) -> i32;
+    fn pk_reduce64(x: u64, e: u32, y: u64) -> u64;
+    fn pk_reduce64_refusal(x: u64, e: u32, y: u64) -> u32;
+    fn pk_reduce32(x: u32, e: u32, y: u32) -> u32;
+    fn pk_reduce32_refusal(x: u32, e: u32, y: u32) -> u32;
 }
 
 // Every function of the archive takes and returns numbers, is proved to end, and touches nothing else: that is what makes
 // the calls below safe.
-pub static ROWS: [Row; 6] = [
+pub static ROWS: [Row; 11] = [
     Row {
         name: "trunc64",
         nans: Nans::BitForBit,
-        draw: quick::for_whole,
+        draws: &FOR_WHOLE,
         ours: |r| unsafe { Answer::status(pk_trunc64(r.x()), pk_trunc64_status(r.x())) },
         crates: |r| Answer::both(api::trunc64(r.x())),
     },
     Row {
         name: "trunc32",
         nans: Nans::BitForBit,
-        draw: quick::for_whole,
+        draws: &FOR_WHOLE,
         ours: |r| unsafe { Answer::status(pk_trunc32(r.x32()).into(), pk_trunc32_status(r.x32())) },
         crates: |r| Answer::both32(api::trunc32(r.x32())),
     },
     Row {
         name: "floor64",
         nans: Nans::BitForBit,
-        draw: quick::for_whole,
+        draws: &FOR_WHOLE,
         ours: |r| unsafe { Answer::status(pk_floor64(r.x()), pk_floor64_status(r.x())) },
         crates: |r| Answer::both(api::floor64(r.x())),
     },
     Row {
         name: "floor32",
         nans: Nans::BitForBit,
-        draw: quick::for_whole,
+        draws: &FOR_WHOLE,
         ours: |r| unsafe { Answer::status(pk_floor32(r.x32()).into(), pk_floor32_status(r.x32())) },
         crates: |r| Answer::both32(api::floor32(r.x32())),
     },
     Row {
         name: "scalbn64",
         nans: Nans::Equal,
-        draw: quick::for_scaling,
+        draws: &FOR_SCALING,
         ours: |r| unsafe { Answer::value(pk_scalbn64(r.x(), r.n())) },
         crates: |r| Answer::value(api::scalbn64(r.x(), r.n())),
     },
     Row {
         name: "scalbn32",
         nans: Nans::Equal,
-        draw: quick::for_scaling,
+        draws: &FOR_SCALING,
         ours: |r| unsafe { Answer::value(pk_scalbn32(r.x32(), r.n()).into()) },
         crates: |r| Answer::value(api::scalbn32(r.x32(), r.n()).into()),
+    },
+    Row {
+        name: "fmod64",
+        nans: Nans::Equal,
+        draws: &FOR_REMAINDERS,
+        ours: |r| unsafe { Answer::value(pk_fmod64(r.x(), r.y())) },
+        crates: |r| Answer::value(api::fmod64(r.x(), r.y())),
+    },
+    Row {
+        name: "fmod32",
+        nans: Nans::Equal,
+        draws: &FOR_REMAINDERS,
+        ours: |r| unsafe { Answer::value(pk_fmod32(r.x32(), r.y32()).into()) },
+        crates: |r| Answer::value(api::fmod32(r.x32(), r.y32()).into()),
+    },
+    Row {
+        name: "remquo64",
+        nans: Nans::Equal,
+        draws: &FOR_REMAINDERS,
+        ours: |r| unsafe {
+            Answer::quotient((pk_remquo64(r.x(), r.y()), pk_remquo64_quotient(r.x(), r.y())))
+        },
+        crates: |r| Answer::quotient(api::remquo64(r.x(), r.y())),
+    },
+    Row {
+        name: "reduce64",
+        nans: Nans::BitForBit,
+        draws: &FOR_REDUCTIONS,
+        ours: |r| unsafe {
+            Answer::refusal(
+                pk_reduce64_refusal(r.x(), r.shift(), r.y()),
+                pk_reduce64(r.x(), r.shift(), r.y()),
+            )
+        },
+        crates: |r| by_the_crate(64, r, || api::reduce64(r.x(), r.shift(), r.y())),
+    },
+    Row {
+        name: "reduce32",
+        nans: Nans::BitForBit,
+        draws: &FOR_REDUCTIONS,
+        ours: |r| unsafe {
+            Answer::refusal(
+                pk_reduce32_refusal(r.x32(), r.shift(), r.y32()),
+                pk_reduce32(r.x32(), r.shift(), r.y32()).into(),
+            )
+        },
+        crates: |r| by_the_crate(32, r, || api::reduce32(r.x32(), r.shift(), r.y32()).into()),
     },
 ];
 
