@@ -1,12 +1,17 @@
 // The operations: their names, what they take and what they give. To add one, add its row to `row_of` and its call to `answer_of`
 // (crates/replies/src/call.rt), under the next number, and its line to the table below, which `./pk --help` prints.
 //
-//   floor64 X       floor64 c004000000000000          the greatest whole number that is not above X
-//   floor32 X       floor32 bf000000
-//   trunc64 X       trunc64 bfe8000000000000          X without its fraction
-//   trunc32 X       trunc32 40200000
-//   scalbn64 X N    scalbn64 3ff8000000000000 -1075   X times 2^N, rounded once
-//   scalbn32 X N    scalbn32 3f800000 128
+//   floor64 X           floor64 c004000000000000                      the greatest whole number that is not above X
+//   floor32 X           floor32 bf000000
+//   trunc64 X           trunc64 bfe8000000000000                      X without its fraction
+//   trunc32 X           trunc32 40200000
+//   scalbn64 X N        scalbn64 3ff8000000000000 -1075               X times 2^N, rounded once
+//   scalbn32 X N        scalbn32 3f800000 128
+//   fmod64 X Y          fmod64 4016000000000000 4000000000000000      what is left of X by Y, taken off toward zero
+//   fmod32 X Y          fmod32 c0800000 40000000
+//   remquo64 X Y        remquo64 c01c000000000000 4000000000000000    what is left of X by the nearest multiple of Y, and which one, modulo 2^31
+//   reduce64 X SHIFT Y  reduce64 0000000000000005 3 0000000000000007  0 or a refusal, and the plain number (X times 2^SHIFT) mod Y
+//   reduce32 X SHIFT Y  reduce32 00000005 3 00000000
 use lines::Fault;
 use lines::find;
 use lines::part;
@@ -71,6 +76,11 @@ pub fn row_of(op: usize) -> Row {
         3 => named(b"trunc32 ", Kind::Word32, Kind::Nothing, Kind::Nothing),
         4 => named(b"scalbn64", Kind::Word64, Kind::Signed, Kind::Nothing),
         5 => named(b"scalbn32", Kind::Word32, Kind::Signed, Kind::Nothing),
+        6 => named(b"fmod64  ", Kind::Word64, Kind::Word64, Kind::Nothing),
+        7 => named(b"fmod32  ", Kind::Word32, Kind::Word32, Kind::Nothing),
+        8 => named(b"remquo64", Kind::Word64, Kind::Word64, Kind::Nothing),
+        9 => named(b"reduce64", Kind::Word64, Kind::Unsigned, Kind::Word64),
+        10 => named(b"reduce32", Kind::Word32, Kind::Unsigned, Kind::Word32),
         _ => named(b"        ", Kind::Nothing, Kind::Nothing, Kind::Nothing),
     }
 }

@@ -10,6 +10,11 @@ pub fn answer_of(op: usize, a: Operands) -> Answer {
         3 => status32(paskerotim::trunc32_status(low(a.x))),
         4 => word64(paskerotim::scalbn64(a.x, a.n)),
         5 => word32(paskerotim::scalbn32(low(a.x), a.n)),
+        6 => word64(paskerotim::fmod64(a.x, a.y)),
+        7 => word32(paskerotim::fmod32(low(a.x), low(a.y))),
+        8 => quotient64(paskerotim::remquo64(a.x, a.y)),
+        9 => refusal64(paskerotim::reduce64(a.x, low(a.y), a.z)),
+        10 => refusal32(paskerotim::reduce32(low(a.x), low(a.y), low(a.z))),
         _ => Answer::Nothing,
     }
 }
@@ -33,4 +38,16 @@ fn status64(r: paskerotim::FpResult64) -> Answer {
 
 fn status32(r: paskerotim::FpResult32) -> Answer {
     Answer::WithStatus(r.val as u64, 8, r.status)
+}
+
+fn quotient64(r: paskerotim::Remquo64) -> Answer {
+    Answer::WithQuotient(r.value, 16, r.quotient)
+}
+
+fn refusal64(r: paskerotim::Reduced64) -> Answer {
+    Answer::AfterRefusal(r.refusal as u64, r.value, 16)
+}
+
+fn refusal32(r: paskerotim::Reduced32) -> Answer {
+    Answer::AfterRefusal(r.refusal as u64, r.value as u64, 8)
 }
