@@ -89,3 +89,54 @@ pub fn subnormal<W: Word>(random: &mut Random) -> (W, i32) {
     let target = random.between(W::SMALLEST - W::FRACTION_BITS as i32, W::SMALLEST - 1);
     (number(random, exponent), target - exponent)
 }
+
+/// A normal number x of any size, and one so many places below it.
+fn apart<W: Word>(random: &mut Random, places: i32) -> (W, W) {
+    let exponent = random.between(W::SMALLEST + places, W::BIAS);
+    (number(random, exponent), number(random, exponent - places))
+}
+
+/// normal numbers, exponents 0 to 8 apart
+pub fn near<W: Word>(random: &mut Random) -> (W, W) {
+    let places = random.between(0, 8);
+    apart(random, places)
+}
+
+/// normal numbers, exponents 31 apart
+pub fn apart31<W: Word>(random: &mut Random) -> (W, W) {
+    apart(random, 31)
+}
+
+/// normal numbers, exponents 63 apart
+pub fn apart63<W: Word>(random: &mut Random) -> (W, W) {
+    apart(random, 63)
+}
+
+/// normal numbers, exponents apart by any number of places that there are, each alike often
+pub fn far<W: Word>(random: &mut Random) -> (W, W) {
+    let places = random.between(0, W::BIAS - W::SMALLEST);
+    apart(random, places)
+}
+
+/// x of the greatest exponent, y an odd number of smallest units from 3 to 17: the longest way there is
+pub fn worst<W: Word>(random: &mut Random) -> (W, W) {
+    let units = 3 + 2 * random.below(8);
+    (number(random, W::BIAS), W::of(units))
+}
+
+/// A y of any length that is not refused, an x below twice that y, and the shift.
+fn reduction<W: Word>(random: &mut Random, shift: u32) -> (W, u32, W) {
+    let y = random.up_to_bits(W::WIDTH - 2);
+    (W::of(random.below(2 * y)), shift, W::of(y))
+}
+
+/// y of any length, x below twice y, shifts 0 to 4096 alike often
+pub fn random<W: Word>(random: &mut Random) -> (W, u32, W) {
+    let shift = random.below(4097) as u32;
+    reduction(random, shift)
+}
+
+/// y of any length, x below twice y, the shift 4096
+pub fn longest<W: Word>(random: &mut Random) -> (W, u32, W) {
+    reduction(random, 4096)
+}

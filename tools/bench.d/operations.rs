@@ -5,8 +5,8 @@
 
 use crate::operands;
 use crate::run::Run;
-use oracle::math::generic;
-use oracle::math::support::{FpResult, Status};
+use oracle::math::support::{linear_mul_reduction, FpResult, Status};
+use oracle::math::{generic, remquo};
 
 pub struct Operation {
     pub name: &'static str,
@@ -67,19 +67,27 @@ macro_rules! operations {
 // by itself, and how near to 1 the ratio of two equal things comes.
 // tools/bench reads the names of this table and the sets at the end of each row.
 operations! {
-//  name           operands         ours: exports and their answers           the crate's, on patterns                                     sets
-    empty64        (x: u64)         [identity64: u64]                         { x }                                                        [patterns];
-    empty32        (x: u32)         [identity32: u32]                         { x }                                                        [patterns];
-    trunc64        (x: u64)         [pk_trunc64: u64]                         { generic::trunc_status(f64::from_bits(x)).val.to_bits() }   [patterns, fractions];
-    trunc32        (x: u32)         [pk_trunc32: u32]                         { generic::trunc_status(f32::from_bits(x)).val.to_bits() }   [patterns, fractions];
-    trunc64_status (x: u64)         [pk_trunc64: u64, pk_trunc64_status: u32] { both64(generic::trunc_status(f64::from_bits(x))) }         [patterns, fractions];
-    trunc32_status (x: u32)         [pk_trunc32: u32, pk_trunc32_status: u32] { both32(generic::trunc_status(f32::from_bits(x))) }         [patterns, fractions];
-    floor64        (x: u64)         [pk_floor64: u64]                         { generic::floor_status(f64::from_bits(x)).val.to_bits() }   [patterns, fractions];
-    floor32        (x: u32)         [pk_floor32: u32]                         { generic::floor_status(f32::from_bits(x)).val.to_bits() }   [patterns, fractions];
-    floor64_status (x: u64)         [pk_floor64: u64, pk_floor64_status: u32] { both64(generic::floor_status(f64::from_bits(x))) }         [patterns, fractions];
-    floor32_status (x: u32)         [pk_floor32: u32, pk_floor32_status: u32] { both32(generic::floor_status(f32::from_bits(x))) }         [patterns, fractions];
-    scalbn64       (x: u64, n: i32) [pk_scalbn64: u64]                        { generic::scalbn(f64::from_bits(x), n).to_bits() }          [normal, wide, subnormal];
-    scalbn32       (x: u32, n: i32) [pk_scalbn32: u32]                        { generic::scalbn(f32::from_bits(x), n).to_bits() }          [normal, wide, subnormal];
+//  name              operands                     ours: exports and their answers               the crate's, on patterns                                          sets
+    empty64           (x: u64)                     [identity64: u64]                             { x }                                                             [patterns];
+    empty32           (x: u32)                     [identity32: u32]                             { x }                                                             [patterns];
+    trunc64           (x: u64)                     [pk_trunc64: u64]                             { generic::trunc_status(f64::from_bits(x)).val.to_bits() }        [patterns, fractions];
+    trunc32           (x: u32)                     [pk_trunc32: u32]                             { generic::trunc_status(f32::from_bits(x)).val.to_bits() }        [patterns, fractions];
+    trunc64_status    (x: u64)                     [pk_trunc64: u64, pk_trunc64_status: u32]     { both64(generic::trunc_status(f64::from_bits(x))) }              [patterns, fractions];
+    trunc32_status    (x: u32)                     [pk_trunc32: u32, pk_trunc32_status: u32]     { both32(generic::trunc_status(f32::from_bits(x))) }              [patterns, fractions];
+    floor64           (x: u64)                     [pk_floor64: u64]                             { generic::floor_status(f64::from_bits(x)).val.to_bits() }        [patterns, fractions];
+    floor32           (x: u32)                     [pk_floor32: u32]                             { generic::floor_status(f32::from_bits(x)).val.to_bits() }        [patterns, fractions];
+    floor64_status    (x: u64)                     [pk_floor64: u64, pk_floor64_status: u32]     { both64(generic::floor_status(f64::from_bits(x))) }              [patterns, fractions];
+    floor32_status    (x: u32)                     [pk_floor32: u32, pk_floor32_status: u32]     { both32(generic::floor_status(f32::from_bits(x))) }              [patterns, fractions];
+    scalbn64          (x: u64, n: i32)             [pk_scalbn64: u64]                            { generic::scalbn(f64::from_bits(x), n).to_bits() }               [normal, wide, subnormal];
+    scalbn32          (x: u32, n: i32)             [pk_scalbn32: u32]                            { generic::scalbn(f32::from_bits(x), n).to_bits() }               [normal, wide, subnormal];
+    fmod64            (x: u64, y: u64)             [pk_fmod64: u64]                              { generic::fmod(f64::from_bits(x), f64::from_bits(y)).to_bits() } [near, apart31, apart63, far, worst];
+    fmod32            (x: u32, y: u32)             [pk_fmod32: u32]                              { generic::fmod(f32::from_bits(x), f32::from_bits(y)).to_bits() } [near, far, worst];
+    remquo64          (x: u64, y: u64)             [pk_remquo64: u64]                            { rest64(remquo(f64::from_bits(x), f64::from_bits(y))) }          [near, far, worst];
+    remquo64_quotient (x: u64, y: u64)             [pk_remquo64: u64, pk_remquo64_quotient: i32] { with_quotient(remquo(f64::from_bits(x), f64::from_bits(y))) }   [near, worst];
+    reduce64          (x: u64, shift: u32, y: u64) [pk_reduce64: u64]                            { linear_mul_reduction(x, shift, y) }                             [random, longest];
+    reduce32          (x: u32, shift: u32, y: u32) [pk_reduce32: u32]                            { linear_mul_reduction(x, shift, y) }                             [random, longest];
+    reduce64_refusal  (x: u64, shift: u32, y: u64) [pk_reduce64: u64, pk_reduce64_refusal: u32]  { (linear_mul_reduction(x, shift, y), 0) }                        [random, longest];
+    reduce32_refusal  (x: u32, shift: u32, y: u32) [pk_reduce32: u32, pk_reduce32_refusal: u32]  { (linear_mul_reduction(x, shift, y), 0) }                        [random, longest];
 }
 
 #[no_mangle]
@@ -100,6 +108,15 @@ fn both64(result: FpResult<f64>) -> (u64, u32) {
 }
 fn both32(result: FpResult<f32>) -> (u32, u32) {
     (result.val.to_bits(), number(result.status))
+}
+
+/// The remainder alone. The crate's call makes the quotient too, and what nobody asks for the compiler would leave out.
+fn rest64((rest, quotient): (f64, i32)) -> u64 {
+    std::hint::black_box(quotient);
+    rest.to_bits()
+}
+fn with_quotient((rest, quotient): (f64, i32)) -> (u64, i32) {
+    (rest.to_bits(), quotient)
 }
 
 /// The status's own byte. It is private in the crate, and asking for it by comparisons would be charged to the crate.

@@ -43,7 +43,7 @@ impl Run {
         let mut random = Random::new(self.seed, stream(set));
         let operands: Vec<T> = (0..COUNT).map(|_| draw(&mut random)).collect();
         if self.operands_alone {
-            let operation = self.operation.trim_end_matches("_status");
+            let operation = self.operation.split('_').next().unwrap_or_default();
             self.requests.extend(operands.iter().map(|&operand| format!("{operation} {}\n", request(operand))));
             return;
         }
