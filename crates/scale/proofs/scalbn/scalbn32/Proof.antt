@@ -8,8 +8,8 @@ use Rattle.ieee.specs.Scalbn.{scalbnOf}
 use Rattle.ieee.proofs.Fields.{field-small}
 use Rattle.ieee.proofs.Formats.{fair32}
 use Rattle.fields.proofs.Widths.{fits32}
-use Rattle.scale.specs.Normal.{Normal}
-use Rattle.scale.proofs.Scales.{scalbn-special, scalbn-pattern}
+use Rattle.scales.specs.Normal.{Normal}
+use Rattle.scales.proofs.Scales.{scalbn-special, scalbn-pattern}
 use Rattle.scale.proofs.scalbn.scalbn32.Statement.{statement}
 use Rattle.scale.proofs.scalbn.scalbn32.Tie as tie
 

@@ -5,8 +5,8 @@ use mir.Facts.{toZ-ofZ}
 use Rattle.ieee.specs.Format.{b64}
 use Rattle.ieee.proofs.Fields.{field-small}
 use Rattle.fields.proofs.Widths.{fits64}
-use Rattle.scale.specs.Normal.{Normal}
-use Rattle.scale.proofs.Scales.{scalbn-special}
+use Rattle.scales.specs.Normal.{Normal}
+use Rattle.scales.proofs.Scales.{scalbn-special}
 use Rattle.scale.proofs.scalbn.scalbn64.Statement.{statement}
 use Rattle.scale.proofs.scalbn.scalbn64.Tie as tie
 

@@ -1,0 +1,60 @@
+-- The significand has room for the cut and the choice (fields: Decoded; cuts: Parts), and what is left is below the sign bit (Scales). Assumes nothing.
+use Prim.Native.Nat.{_+_, _/_, _%_, _^_}
+use mathlib.Core.Path.{_≡_, ap, ap₂, _∙_}
+use native.Mathlib.Omega.{arith}
+use borrow.Author.Needs.{needs}
+use Rattle.ieee.specs.Format.{Format}
+use Rattle.ieee.specs.Pattern.{signed}
+use Rattle.ieee.specs.Round.{even}
+use Rattle.cuts.specs.Cut.{part, chosen}
+use Rattle.fields.specs.Width.{format}
+use Rattle.fields.proofs.Decoded.{significand-room}
+use Rattle.cuts.proofs.Parts.{part-le}
+use Rattle.scales.specs.Normal.{fullOf}
+use Rattle.scales.proofs.Scales.{fallen-room}
+use Rattle.moves.proofs.fallen.Statement.{statement}
+use Rattle.moves.proofs.fallen.Tie as tie
+
+abbrev fmt : tie.Start → Format
+fmt s = format (s .args .frac) (s .args .expo)
+
+full-is : (c : tie.After-fraction-field) → let s = c .before .before in c .before .pow .result + c .fraction-field .result ≡ fullOf (fmt s) (s .args .x)
+full-is c = ap₂ _+_ (c .before .pow .ensures) (c .fraction-field .ensures)
+
+cut-is : (c : tie.After-shed) → let s = c .before .before .before in let S = fullOf (fmt s) (s .args .x) in
+    (c .shed .result .kept ≡ S / 2 ^ s .args .k) × (c .shed .result .place ≡ part (S % 2 ^ s .args .k) (2 ^ s .args .k))
+cut-is c =
+    let d = 2 ^ c .before .before .before .args .k in
+    (c .shed .ensures .0 ∙ ap (λ u. u / d) (full-is (c .before)), c .shed .ensures .1 ∙ ap (λ u. part (u % d) d) (full-is (c .before)))
+
+pow-requires : tie.Need-pow-requires
+pow-requires c κs = search needs
+
+fraction-field-requires : tie.Need-fraction-field-requires
+fraction-field-requires c κs = search needs
+
+add-shed : tie.Need-add-shed
+add-shed c = let s = c .before .before in record { fits = omega (arith, full-is c, significand-room (s .pre .0) (s .args .x)) }
+
+shed-requires : tie.Need-shed-requires
+shed-requires c κs = search needs
+
+is-negative-requires : tie.Need-is-negative-requires
+is-negative-requires c κs = search needs
+
+settled-requires : tie.Need-settled-requires
+settled-requires c κs =
+    let d = c .before in
+    let s = d .before .before .before in
+    let q = 2 ^ s .args .k in
+    (s .pre .0, omega (arith, cut-is d .0, fallen-room (s .pre .0) (s .args .x) (s .args .k) (s .pre .1)), omega (arith, cut-is d .1, part-le (fullOf (fmt s) (s .args .x) % q) q))
+
+returns : tie.Need-returns
+returns c =
+    let g = c .before in
+    let s = g .before .before .before .before in
+    let (a, b) = cut-is (g .before) in
+    c .settled .ensures ∙ ap₂ (signed (fmt s)) (g .is-negative .ensures) (ap₂ (chosen even) a b)
+
+pub fallen-spec : {M : Type 1} → statement M
+fallen-spec = tie.close (tie.spec pow-requires fraction-field-requires add-shed shed-requires is-negative-requires settled-requires returns)

@@ -1,0 +1,1 @@
+// scalbn by the fields of a pattern: the definitions and the lemmas.

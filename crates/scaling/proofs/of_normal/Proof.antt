@@ -1,0 +1,105 @@
+-- The field ends below the normal ones, among them or past them (exponents: Exponents), and each is a case of the answer (Scales). Assumes nothing.
+use mathlib.Core.Path.{_≡_, sym, ap, _∙_}
+use native.Mathlib.Omega.{arith}
+use lib.IntN.{pos, _+ℤ_}
+use lib.Pow.{pow-pos}
+use mir.Syntax.{w64}
+use mir.Val.{SFits}
+use mir.Facts.{toZ-ofZ}
+use borrow.Author.Needs.{needs}
+use Rattle.ieee.specs.Format.{Format}
+use Rattle.fields.specs.Width.{format}
+use Rattle.fields.proofs.Decoded.{field-in-word, significand-room}
+use Rattle.exponents.specs.Field.{above, depthOf}
+use Rattle.scales.specs.Normal.{movedTo}
+use Rattle.exponents.proofs.Exponents.{depth-least, depth-most, above-is}
+use Rattle.scales.proofs.Scales.{scalbn-moved, scalbn-low, scalbn-over}
+use Rattle.scaling.proofs.of_normal.Statement.{statement}
+use Rattle.scaling.proofs.of_normal.Tie as tie
+
+abbrev fmt : tie.Start → Format
+fmt s = format (s .args .frac) (s .args .expo)
+
+-- the field of x moved by n
+to-is : (c : tie.After-raised) → let s = c .before .before in c .raised .result ≡ movedTo (fmt s) (s .args .x) (s .args .n)
+to-is c =
+    let s = c .before .before in
+    (simp (toZ-ofZ, s .fits .n) at (c .raised .ensures)) ∙ ap (λ v. s .args .n +ℤ pos v) (c .before .exponent-field .ensures)
+
+to-back : (c : tie.After-raised) → SFits w64 (c .raised .result)
+to-back c = record { sfits = c .raised .ok }
+
+field-is : (c : tie.After-upper) → let s = c .before .before .before in c .upper .result ≡ above (movedTo (fmt s) (s .args .x) (s .args .n))
+field-is c = (simp (toZ-ofZ, to-back (c .before)) at (c .upper .ensures)) ∙ ap above (to-is (c .before))
+
+depth-is : (c : tie.After-depth) → let s = c .before .before .before .before .before in c .depth .result ≡ depthOf (movedTo (fmt s) (s .args .x) (s .args .n))
+depth-is c = let r = c .before .before .before in (simp (toZ-ofZ, to-back r) at (c .depth .ensures)) ∙ ap depthOf (to-is r)
+
+-- a field that is not 0 is the exponent itself
+up-is : (c : tie.Else1) → let u = c .before in let s = u .before .before .before in movedTo (fmt s) (s .args .x) (s .args .n) ≡ pos (u .upper .result)
+up-is c =
+    let u = c .before in
+    let s = u .before .before .before in
+    let z = movedTo (fmt s) (s .args .x) (s .args .n) in
+    above-is z (omega (arith, field-is u)) ∙ ap pos (sym (field-is u))
+
+exponent-field-requires : tie.Need-exponent-field-requires
+exponent-field-requires c κs = search needs
+
+raised-requires : tie.Need-raised-requires
+raised-requires c κs = omega (arith, c .exponent-field .ensures, field-in-word (c .before .pre .0) (c .before .args .x))
+
+upper-requires : tie.Need-upper-requires
+upper-requires c κs = search needs
+
+depth-requires : tie.Need-depth-requires
+depth-requires c κs = search needs
+
+fallen-requires : tie.Need-fallen-requires
+fallen-requires c κs =
+    let s = c .before .before .before .before .before in
+    let z = movedTo (fmt s) (s .args .x) (s .args .n) in
+    (s .pre .0, omega (arith, depth-is c, depth-least z), omega (arith, depth-is c, depth-most z))
+
+returns : tie.Need-returns
+returns c =
+    let d = c .before in
+    let u = d .before .before in
+    let s = u .before .before .before in
+    c .fallen .ensures
+    ∙ scalbn-low (fmt s) (s .pre .0 .fair) (s .args .x) (s .args .n) (s .pre .2) (d .depth .result) (sym (field-is u) ∙ d .before .if1 .taken) (depth-is d) (significand-room (s .pre .0) (s .args .x))
+
+pow-requires : tie.Need-pow-requires
+pow-requires c κs = search needs
+
+sub-if2 : tie.Need-sub-if2
+sub-if2 c = let s = c .before .before .before .before .before in omega (arith, c .pow .ensures, pow-pos (s .args .expo))
+
+with-field-requires : tie.Need-with-field-requires
+with-field-requires c κs =
+    let p = c .before in
+    let s = p .before .before .before .before .before in
+    (s .pre .0, s .pre .1, omega (arith, p .pow .ensures))
+
+returns-2 : tie.Need-returns-2
+returns-2 c =
+    let p = c .before .before in
+    let u = p .before .before in
+    let s = u .before .before .before in
+    c .with-field .ensures
+    ∙ scalbn-moved (fmt s) (s .pre .0 .fair) (s .args .x) (s .args .n) (s .pre .2) (u .upper .result) (s .pre .1) (up-is (p .before)) (omega arith) (omega (arith, p .pow .ensures))
+
+past-largest-requires : tie.Need-past-largest-requires
+past-largest-requires c κs = search needs
+
+returns-3 : tie.Need-returns-3
+returns-3 c =
+    let p = c .before .before in
+    let u = p .before .before in
+    let s = u .before .before .before in
+    c .past-largest .ensures ∙ scalbn-over (fmt s) (s .pre .0 .fair) (s .args .x) (s .args .n) (s .pre .2) (u .upper .result) (up-is (p .before)) (omega (arith, p .pow .ensures))
+
+pub of-normal-spec : {M : Type 1} → statement M
+of-normal-spec =
+    tie.close
+    (tie.spec exponent-field-requires raised-requires upper-requires depth-requires fallen-requires returns pow-requires sub-if2 with-field-requires returns-2 past-largest-requires returns-3)
