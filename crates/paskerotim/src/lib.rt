@@ -19,16 +19,16 @@ pub use refusals::at32::refusal32;
 pub use refusals::at64::refusal64;
 pub use remquo::answer::Remquo64;
 pub use remquo::remquo64;
+pub use floor::floor32;
+pub use floor::floor32_status;
+pub use floor::floor64;
+pub use floor::floor64_status;
 pub use scale::scalbn::scalbn32;
 pub use scale::scalbn::scalbn64;
-pub use whole::floor::floor32;
-pub use whole::floor::floor32_status;
-pub use whole::floor::floor64;
-pub use whole::floor::floor64_status;
-pub use whole::trunc::trunc32;
-pub use whole::trunc::trunc32_status;
-pub use whole::trunc::trunc64;
-pub use whole::trunc::trunc64_status;
+pub use trunc::trunc32;
+pub use trunc::trunc32_status;
+pub use trunc::trunc64;
+pub use trunc::trunc64_status;
 
 #[no_mangle]
 pub extern "C" fn pk_trunc64(x: u64) -> u64

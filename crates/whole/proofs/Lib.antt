@@ -1,3 +1,3 @@
 mod Scaled
 mod Cuts
-mod Method
+pub mod Method

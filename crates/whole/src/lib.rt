@@ -1,3 +1,1 @@
-// Whole numbers of ones: trunc and floor, on patterns of 64 and 32 bits, each with its status.
-pub mod floor;
-pub mod trunc;
+// trunc and floor by the place of the point in a pattern: the lemmas.
