@@ -1,3 +1,2 @@
--- Lemmas on plain numbers that the functions' proofs cite, each over a variable base.
-pub mod Columns
+-- Lemmas on plain numbers that the functions' proofs cite, over a variable base.
 pub mod Pairs

@@ -1,10 +1,10 @@
--- `words::product::mul_lo` meets its contract: its digit is that of the middle column, of which the two words' law speaks. Assumes nothing.
+-- `products::mul_lo` meets its contract: its digit is that of the middle column, of which the two words' law speaks. Assumes nothing.
 use Prim.Native.Nat.{ℕ, _+_, _*_, _/_, _%_}
 use native.Mathlib.Omega.{arith}
 use borrow.Author.Needs.{needs}
-use Rattle.words.proofs.Columns.{Rooms, digit-products-fit, middle-column-settles-both}
-use Rattle.words.proofs.product.mul_lo.Statement.{statement}
-use Rattle.words.proofs.product.mul_lo.Tie as tie
+use Rattle.products.proofs.Columns.{Rooms, digit-products-fit, middle-column-settles-both}
+use Rattle.products.proofs.mul_lo.Statement.{statement}
+use Rattle.products.proofs.mul_lo.Tie as tie
 
 abbrev B : ℕ
 B = 4294967296

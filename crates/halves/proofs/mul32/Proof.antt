@@ -1,11 +1,11 @@
--- `words::narrow::mul32` meets its contract: two factors below 2^32 have a product below 2^64. Assumes nothing.
+-- `halves::mul32` meets its contract: two factors below 2^32 have a product below 2^64. Assumes nothing.
 use mathlib.Core.Path.{_≡_, ap₂}
 use Prim.Native.Nat.{_*_, _<_}
+use native.Mathlib.Nat.{mul-le-mul}
 use native.Mathlib.Omega.{arith}
 use borrow.Author.Needs.{needs}
-use Rattle.words.proofs.Columns.{product-leaves-room}
-use Rattle.words.proofs.narrow.mul32.Statement.{statement}
-use Rattle.words.proofs.narrow.mul32.Tie as tie
+use Rattle.halves.proofs.mul32.Statement.{statement}
+use Rattle.halves.proofs.mul32.Tie as tie
 
 widen-requires : tie.Need-widen-requires
 widen-requires c κs = search needs
@@ -17,7 +17,7 @@ mul-result : tie.Need-mul-result
 mul-result c =
     let a : c .before .widen .result < 4294967296 = omega arith in
     let b : c .widen2 .result < 4294967296 = omega arith in
-    omega (arith, product-leaves-room a b)
+    omega (arith, mul-le-mul a b)
 
 returns : tie.Need-returns
 returns c =

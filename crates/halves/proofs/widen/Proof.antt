@@ -1,7 +1,7 @@
 -- A wider word holds the number as it is. Assumes nothing.
 use borrow.Author.Needs.{needs}
-use Rattle.words.proofs.narrow.widen.Statement.{statement}
-use Rattle.words.proofs.narrow.widen.Tie as tie
+use Rattle.halves.proofs.widen.Statement.{statement}
+use Rattle.halves.proofs.widen.Tie as tie
 
 returns : tie.Need-returns
 returns c = search needs

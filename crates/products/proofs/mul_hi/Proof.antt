@@ -1,9 +1,9 @@
--- `words::product::mul_hi` meets its contract: its carries are those of the middle column, of which the two words' law speaks. Assumes nothing.
+-- `products::mul_hi` meets its contract: its carries are those of the middle column, of which the two words' law speaks. Assumes nothing.
 use Prim.Native.Nat.{ℕ, _+_, _*_, _/_, _%_}
 use native.Mathlib.Omega.{arith}
-use Rattle.words.proofs.Columns.{Rooms, digit-products-fit, middle-column-settles-both}
-use Rattle.words.proofs.product.mul_hi.Statement.{statement}
-use Rattle.words.proofs.product.mul_hi.Tie as tie
+use Rattle.products.proofs.Columns.{Rooms, digit-products-fit, middle-column-settles-both}
+use Rattle.products.proofs.mul_hi.Statement.{statement}
+use Rattle.products.proofs.mul_hi.Tie as tie
 
 abbrev B : ℕ
 B = 4294967296
