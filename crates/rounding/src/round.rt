@@ -9,7 +9,7 @@ ghost use Rattle.ieee.specs.Scalbn.{scaled};
 ghost use Rattle.cuts.specs.Cut.{chosen};
 ghost use Rattle.fields.specs.Width.{format, Fits};
 use crate::choice::nearest_even;
-use cuts::cut::cut;
+use cut::cut;
 use fields::with_sign;
 
 // What a cut found, settled: the choice, and the sign. Every rounding ends here, overflow too, where the lower neighbour is the largest number.

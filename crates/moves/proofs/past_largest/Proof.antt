@@ -1,4 +1,4 @@
--- The largest number as a difference of bits (Scales), settled at the place past the middle. Assumes nothing.
+-- The largest number as a difference of bits (scales: Scales), settled at the place past the middle. Assumes nothing.
 use Prim.Native.Nat.{_-_}
 use mathlib.Core.Path.{_≡_, ap₂, _∙_}
 use native.Mathlib.Omega.{arith}

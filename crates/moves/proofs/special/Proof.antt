@@ -1,4 +1,4 @@
--- The branches are the definition's, and the difference of the two powers is the canonical NaN (Scales). Assumes nothing.
+-- The branches are the definition's, and the difference of the two powers is the canonical NaN (scales: Scales). Assumes nothing.
 use Prim.Native.Nat.{_-_}
 use mathlib.Core.Path.{sym, ap₂, _∙_}
 use native.Mathlib.Omega.{arith}

@@ -1,4 +1,4 @@
--- The field ends below the normal ones, among them or past them (exponents: Exponents), and each is a case of the answer (Scales). Assumes nothing.
+-- The field ends below the normal ones, among them or past them (exponents: Exponents), and each is a case of the answer (scales: Scales). Assumes nothing.
 use mathlib.Core.Path.{_≡_, sym, ap, _∙_}
 use native.Mathlib.Omega.{arith}
 use lib.IntN.{pos, _+ℤ_}

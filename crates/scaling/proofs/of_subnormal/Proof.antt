@@ -1,4 +1,4 @@
--- The fraction is the value in smallest units, so that the rounding step gives the answer, with n in reach (Scales). Assumes nothing.
+-- The fraction is the value in smallest units, so that the rounding step gives the answer, with n in reach (scales: Scales). Assumes nothing.
 use Prim.Native.Nat.{_+_, _^_}
 use mathlib.Core.Path.{_≡_, ap, ap₂, _∙_}
 use native.Mathlib.Omega.{arith}

@@ -1,4 +1,4 @@
--- The field tells which row of the answer applies; every answer is a pattern of 32 bits, so that narrowing keeps it (Scales). Assumes nothing.
+-- The field tells which row of the answer applies; every answer is a pattern of 32 bits, so that narrowing keeps it (scales: Scales). Assumes nothing.
 use Prim.Native.Nat.{_^_, _<_}
 use mathlib.Core.Path.{_≡_, sym, _∙_}
 use native.Mathlib.Omega.{arith}
