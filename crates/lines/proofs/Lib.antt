@@ -1,9 +1,0 @@
-pub mod Reading
-pub mod Writing
-pub mod Signs
-pub mod Parts
-pub mod Placing
-pub mod Counting
-pub mod RoundTrip
-pub mod SignedDigits
-pub mod Limits

@@ -1,0 +1,3 @@
+mod Limits
+mod Parts
+pub mod Signs

@@ -1,0 +1,4 @@
+mod Placing
+mod Counting
+mod SignedDigits
+pub mod RoundTrip
