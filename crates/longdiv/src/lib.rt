@@ -3,12 +3,13 @@ ghost use mathlib.Core.Path.{_≡_};
 ghost use Prim.Native.Nat.{_+_, _*_, _/_, _%_, _<_, _^_};
 ghost use Rattle.longdiv.specs.Nearest.{goesUp, counted, leftOver};
 
+// What is left below the divisor, and the last 32 bits of the quotient.
 pub struct Division {
     pub rem: u64,
     pub quo: u32,
 }
 
-// What is left of a division, with the sign turned where the next multiple is the nearest.
+// The nearest multiple: whether it is the next one and not the one below, how far it is, and the last 32 bits of its number.
 pub struct Choice {
     pub up: bool,
     pub rest: u64,
@@ -48,7 +49,7 @@ pub fn divided(num: u64, div: u64, n: u32) -> Division
 }
 
 // The multiple below, or the next one where that is nearer, or as near and even: twice the remainder is past the divisor, and in a tie an odd quotient's
-// last bit takes it past. The quotient then goes up by one, modulo 2^32.
+// last bit takes it past. The quotient then goes up by one, and wraps where its 32 bits are ones: they are its last 32 bits still.
 pub fn nearest(rem: u64, div: u64, quo: u32) -> Choice
     requires { ⌜ (rem < div) × (div < 2 ^ 63) ⌝ }
     ensures { λ r. ⌜ (r .up ≡ goesUp rem div quo) × (r .rest ≡ leftOver rem div quo) × (r .quo ≡ counted rem div quo % 2 ^ 32) ⌝ }

@@ -19,7 +19,8 @@ use sorting::no_remainder;
 
 pub mod answer;
 
-// Two numbers that are not zero. Where x is below half of y it is all left. One exponent below y's it is less than y, whose significand then counts twice.
+// Two numbers that are not zero. Two exponents below y's, x is less than half of y and all left. One below, it is less than y: the quotient is 0 so far, and y's
+// significand counts twice at the exponent of x. Else the significands are divided, and what is left stands at the exponent of y.
 fn of_numbers(frac: u32, expo: u32, x: u64, y: u64) -> Remquo
     requires { ⌜ Fits frac expo × Pattern (format frac expo) x × (0 < magnitude (format frac expo) x) × (magnitude (format frac expo) x < inf (format frac expo)) × (0 < magnitude (format frac expo) y) × (magnitude (format frac expo) y < inf (format frac expo)) ⌝ }
     ensures { λ r. ⌜ (r .value ≡ remquoOf (format frac expo) x y) × (r .quotient ≡ quotientOf (format frac expo) x y) ⌝ }
@@ -64,6 +65,7 @@ fn of_finite(frac: u32, expo: u32, x: u64, y: u64) -> Remquo
     of_numbers(frac, expo, x, y)
 }
 
+// Where there is no remainder, the canonical NaN.
 pub fn remquo64(x: u64, y: u64) -> Remquo64
     ensures { λ r. ⌜ (r .value ≡ remquoOf b64 x y) × (r .quotient ≡ quotientOf b64 x y) ⌝ }
 {

@@ -16,6 +16,7 @@ use fields::fraction_field;
 use packing::packed;
 use shift::pow;
 
+// sig times 2^(exp - 1) smallest units.
 pub struct Significand {
     pub sig: u64,
     pub exp: i32,
@@ -36,6 +37,7 @@ fn brought(frac: u32, t: u64) -> Significand
     Significand { sig, exp }
 }
 
+// A normal number has its leading bit in place above the fraction, and its exponent is the field; a subnormal one is brought there.
 pub fn normal(frac: u32, expo: u32, x: u64) -> Significand
     requires { ⌜ Fits frac expo × (0 < magnitude (format frac expo) x) × (magnitude (format frac expo) x < inf (format frac expo)) ⌝ }
     ensures { λ r. ⌜ (r .sig ≡ sigOf (format frac expo) x) × (r .exp ≡ expOf (format frac expo) x) ⌝ }

@@ -5,15 +5,10 @@ use native.Mathlib.Omega.{arith}
 use mir.Facts.{toZ-ofZ}
 use borrow.Author.Needs.{needs}
 use lib.IntN.{pos, _+ℤ_, _-ℤ_}
-use Rattle.ieee.specs.Format.{Format}
-use Rattle.fields.specs.Width.{format}
 use Rattle.exponents.specs.Field.{above}
 use Rattle.remquo.proofs.Apart.{Operands, Settles, exponents-fit, exponents-small, significands-room, all-left, one-below, not-below, settled-is}
 use Rattle.remquo.proofs.of_numbers.Statement.{statement}
 use Rattle.remquo.proofs.of_numbers.Tie as tie
-
-abbrev fmt : tie.Start → Format
-fmt s = format (s .args .frac) (s .args .expo)
 
 operands : (c : tie.After-normal2) → let s = c .before .before in let r = c .before .normal .result in let t = c .normal2 .result in
     Operands (s .args .frac) (s .args .expo) (s .args .x) (s .args .y) (r .sig) (t .sig) (r .exp) (t .exp)
