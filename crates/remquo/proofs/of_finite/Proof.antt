@@ -25,14 +25,27 @@ module _ (c : tie.After-pow2) where
   inf-is : c .before .pow .result - c .pow2 .result ≡ inf (fmt at)
   inf-is = omega (arith, c .before .pow .ensures, c .pow2 .ensures, infinity-top (at .pre .0))
 
+other : (c : tie.Else1) → let s = at (c .before) in magnitude (fmt s) (s .args .y) ≡ inf (fmt s) → ⊥
+other c e = let s = at (c .before) in c .if1 .left (top-is (c .before) (s .args .y) ∙ e ∙ sym (inf-is (c .before)))
+
+of-numbers-requires : tie.Need-of-numbers-requires
+of-numbers-requires c κs =
+    let w = c .before .before in
+    let s = at w in
+    let g : Remains (fmt s) (infinity-some (s .pre .0)) (s .args .x) (s .args .y) = remains (fmt s) (infinity-some (s .pre .0)) (s .args .x) (s .args .y) (s .pre .2) in (
+      s .pre .0,
+      s .pre .1,
+      omega (arith, top-is w (s .args .x)),
+      g .below,
+      g .least,
+      y-below (fmt s) (s .args .x) (s .args .y) (infinity-some (s .pre .0)) (s .pre .2) (other (c .before)),
+    )
+
 returns : tie.Need-returns
 returns c =
     let w = c .before in
     let s = at w in
     by-infinite (fmt s) (s .args .x) (s .args .y) (infinity-some (s .pre .0)) (s .pre .2) (sym (top-is w (s .args .y)) ∙ c .if1 .taken ∙ inf-is w)
-
-other : (c : tie.Else1) → let s = at (c .before) in magnitude (fmt s) (s .args .y) ≡ inf (fmt s) → ⊥
-other c e = let s = at (c .before) in c .if1 .left (top-is (c .before) (s .args .y) ∙ e ∙ sym (inf-is (c .before)))
 
 returns-2 : tie.Need-returns-2
 returns-2 c =
@@ -60,19 +73,6 @@ rem-if1 c = search needs
 
 rem-if2 : tie.Need-rem-if2
 rem-if2 c = search needs
-
-of-numbers-requires : tie.Need-of-numbers-requires
-of-numbers-requires c κs =
-    let w = c .before .before in
-    let s = at w in
-    let g : Remains (fmt s) (infinity-some (s .pre .0)) (s .args .x) (s .args .y) = remains (fmt s) (infinity-some (s .pre .0)) (s .args .x) (s .args .y) (s .pre .2) in (
-      s .pre .0,
-      s .pre .1,
-      omega (arith, top-is w (s .args .x)),
-      g .below,
-      g .least,
-      y-below (fmt s) (s .args .x) (s .args .y) (infinity-some (s .pre .0)) (s .pre .2) (other (c .before)),
-    )
 
 pub of-finite-spec : {M : Type 1} → statement M
 of-finite-spec =

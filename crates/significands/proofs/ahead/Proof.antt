@@ -1,5 +1,5 @@
 -- Neither step wraps, and what is below zero counts as nothing (exponents: Exponents; algebra: Integers). Assumes nothing.
-use Prim.Native.Nat.{_^_}
+use Prim.Native.Nat.{_+_, _^_, _≤_, _<_}
 use mathlib.Core.Path.{_≡_}
 use mathlib.Core.Bool.{true, false}
 use native.Mathlib.Omega.{arith}
@@ -8,7 +8,7 @@ use lib.Signed.{ltZ}
 use mir.Syntax.{w32}
 use mir.Val.{SFits}
 use mir.Facts.{toZ-ofZ}
-use Rattle.algebra.proofs.Integers.{addZ, subZ, absZ, ltZ-false, magZ-fact, sfitsZ, nonNegZ}
+use Rattle.algebra.proofs.Integers.{up, dn, addZ, subZ, absZ, ltZ-false, magZ-fact, sfitsZ, nonNegZ}
 use Rattle.exponents.proofs.Exponents.{above-negative, above-not}
 use Rattle.significands.proofs.ahead.Statement.{statement}
 use Rattle.significands.proofs.ahead.Tie as tie
@@ -20,30 +20,27 @@ module _ (c : tie.Start) where
   abbrev far : ℤ
   far = less +ℤ pos 2
 
+  abbrev parts : up less + dn (c .args .ex) + up (c .args .ey) ≡ dn less + up (c .args .ex) + dn (c .args .ey)
+  parts = subZ (c .args .ex) (c .args .ey)
+
+  abbrev sizes : (up (c .args .ex) < 2 ^ 20) × (dn (c .args .ex) ≤ 2 ^ 20) × (up (c .args .ey) < 2 ^ 20) × (dn (c .args .ey) ≤ 2 ^ 20)
+  sizes = omega (arith, magZ-fact (c .args .ex) (c .pre .0), magZ-fact (c .args .ey) (c .pre .1))
+
   less-fits : SFits w32 less
-  less-fits =
-      let s = subZ (c .args .ex) (c .args .ey) in
-      let m = magZ-fact (c .args .ex) {h = 2 ^ 20} (c .pre .0) in
-      let n = magZ-fact (c .args .ey) {h = 2 ^ 20} (c .pre .1) in
-      sfitsZ w32 less (omega arith) (omega arith)
+  less-fits = sfitsZ w32 less (omega (arith, parts, sizes)) (omega (arith, parts, sizes))
 
   far-fits : SFits w32 far
-  far-fits =
-      let s = subZ (c .args .ex) (c .args .ey) in
-      let a = addZ less (pos 2) in
-      let m = magZ-fact (c .args .ex) {h = 2 ^ 20} (c .pre .0) in
-      let n = magZ-fact (c .args .ey) {h = 2 ^ 20} (c .pre .1) in
-      sfitsZ w32 far (omega arith) (omega arith)
-
--- the test, on the integers
-not-behind : (c : tie.Else1) → ltZ (far (c .before)) (pos 0) ≡ false
-not-behind c = let s = c .before in simp (toZ-ofZ, s .fits .ex, s .fits .ey, less-fits s, far-fits s) at (c .if1 .left)
+  far-fits = let a = addZ less (pos 2) in sfitsZ w32 far (omega (arith, parts, sizes)) (omega (arith, parts, sizes))
 
 returns : tie.Need-returns
 returns c =
     let s = c .before in
     let t : ltZ (far s) (pos 0) ≡ true = simp (toZ-ofZ, s .fits .ex, s .fits .ey, less-fits s, far-fits s) at (c .if1 .taken) in
     above-negative (far s) t
+
+-- the test, on the integers
+not-behind : (c : tie.Else1) → ltZ (far (c .before)) (pos 0) ≡ false
+not-behind c = let s = c .before in simp (toZ-ofZ, s .fits .ex, s .fits .ey, less-fits s, far-fits s) at (c .if1 .left)
 
 returns-2 : tie.Need-returns-2
 returns-2 c = let s = c .before in simp (toZ-ofZ, s .fits .ex, s .fits .ey, less-fits s, far-fits s) (above-not (far s) (not-behind c))

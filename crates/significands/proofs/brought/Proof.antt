@@ -59,6 +59,12 @@ pow-requires c κs = search needs
 loop-holds : tie.Need-loop-holds Inv-loop μ-loop
 loop-holds c = (0, omega arith, omega arith, refl)
 
+loop-again : tie.Need-loop-again Inv-loop μ-loop
+loop-again c =
+    let l = c .before in
+    let s = l .before .before .args in
+    (suc (steps l), omega (arith, times (s .t) (two-pow-succ (steps l)), l .loop .inv .1), omega arith, simp (toZ-ofZ, less-fits l) (one-less l))
+
 mul-sig : tie.Need-mul-sig Inv-loop μ-loop
 mul-sig c = record { fits = omega (arith, pow-mono {i = c .before .before .before .args .frac} {j = 61} (omega arith)) }
 
@@ -67,12 +73,6 @@ sub-exp c = less-fits (c .before)
 
 loop-less : tie.Need-loop-less Inv-loop μ-loop
 loop-less c = omega (arith, some (c .before))
-
-loop-again : tie.Need-loop-again Inv-loop μ-loop
-loop-again c =
-    let l = c .before in
-    let s = l .before .before .args in
-    (suc (steps l), omega (arith, times (s .t) (two-pow-succ (steps l)), l .loop .inv .1), omega arith, simp (toZ-ofZ, less-fits l) (one-less l))
 
 pub brought-spec : {M : Type 1} → statement M
 brought-spec = tie.close (tie.spec Inv-loop μ-loop pow-requires loop-holds mul-sig sub-exp loop-less loop-again returns)
