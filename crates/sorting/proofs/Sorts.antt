@@ -16,20 +16,6 @@ use Rattle.ieee.proofs.Patterns.{inf-below-top, kind-nan, kind-infinite, kind-f
 use Rattle.fields.specs.Width.{format, Fits}
 use Rattle.sorting.specs.Rows.{noRemainder}
 
--- ---- by kinds: the answer of any remainder where there is none
-pub divide-none : {A : Type 0} (none same : A) (r : ℕ → ℕ → A) (k l : Kind) → divide true false (λ u v. false) k l ≡ true → divide none same r k l ≡ none
-unfolding divide
-divide-none none same r nan l e = refl
-divide-none none same r infinite l e = refl
-divide-none none same r (finite u) nan e = refl
-divide-none none same r (finite u) infinite e = absurd (true≢false (sym e))
-divide-none none same r (finite u) (finite zero) e = refl
-divide-none none same r (finite u) (finite (suc v)) e = absurd (true≢false (sym e))
-
-pub no-remainder-none : {A : Type 0} (none same : A) (r : ℕ → ℕ → A) (f : Format) (x y : ℕ) → noRemainder f x y ≡ true → divide none same r (kind f x) (kind f y) ≡ none
-unfolding noRemainder
-no-remainder-none none same r f x y e = divide-none none same r (kind f x) (kind f y) e
-
 -- ---- by magnitudes
 module _ (f : Format) (some : 0 < inf f) (x y : ℕ) where
   pub x-without : inf f ≤ magnitude f x → noRemainder f x y ≡ true
@@ -38,11 +24,11 @@ module _ (f : Format) (some : 0 < inf f) (x y : ℕ) where
 
   pub y-nan : inf f < magnitude f y → noRemainder f x y ≡ true
   unfolding noRemainder
-  y-nan l = rw (kind-nan f y l) (divide-by-nan true false (λ u v. false) (kind f x))
+  y-nan l = rw (kind-nan f y l) (divide-by-nan _ _ _ (kind f x))
 
   pub y-zero : magnitude f y ≡ 0 → noRemainder f x y ≡ true
   unfolding noRemainder
-  y-zero e = rw (kind-finite f y (omega arith) ∙ ap finite (ap (units f) e ∙ units-zero f)) (divide-by-zero true false (λ u v. false) (kind f x))
+  y-zero e = rw (kind-finite f y (omega arith) ∙ ap finite (ap (units f) e ∙ units-zero f)) (divide-by-zero _ _ _ (kind f x))
 
   pub both-with : magnitude f x < inf f → 0 < magnitude f y → magnitude f y ≤ inf f → noRemainder f x y ≡ false
   unfolding noRemainder divide
@@ -95,3 +81,17 @@ module _ {p e : ℕ} (w : Fits p e) where
 
   pub top-room : 2 ^ (p + e) < 2 ^ 64
   top-room = omega (arith, pow-mono {i = p + e} {j = 63} (w .word))
+
+-- ---- by kinds: the answer of any remainder where there is none
+pub divide-none : {A : Type 0} (none same : A) (r : ℕ → ℕ → A) (k l : Kind) → divide true false (λ u v. false) k l ≡ true → divide none same r k l ≡ none
+unfolding divide
+divide-none none same r nan l e = refl
+divide-none none same r infinite l e = refl
+divide-none none same r (finite u) nan e = refl
+divide-none none same r (finite u) infinite e = absurd (true≢false (sym e))
+divide-none none same r (finite u) (finite zero) e = refl
+divide-none none same r (finite u) (finite (suc v)) e = absurd (true≢false (sym e))
+
+pub no-remainder-none : {A : Type 0} (none same : A) (r : ℕ → ℕ → A) (f : Format) (x y : ℕ) → noRemainder f x y ≡ true → divide none same r (kind f x) (kind f y) ≡ none
+unfolding noRemainder
+no-remainder-none none same r f x y e = divide-none none same r (kind f x) (kind f y) e
