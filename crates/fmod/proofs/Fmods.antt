@@ -1,7 +1,7 @@
 -- fmod by significands and exponents, over the format. Assumes nothing.
 use Prim.Native.Nat.{ℕ, zero, suc, _+_, _-_, _*_, _/_, _%_, _^_, _≤_, _<_}
-use mathlib.Core.Path.{_≡_, sym, ap, ap₂, _∙_}
-use mathlib.Core.Bool.{true, false}
+use mathlib.Core.Path.{_≡_, refl, sym, ap, ap₂, _∙_}
+use mathlib.Core.Bool.{Bool, true, false, cond}
 use native.Mathlib.Nat.{mod-lt}
 use native.Mathlib.Omega.{arith, both-ways}
 use lib.Pow.{pow-add, pow-pos}
@@ -128,3 +128,15 @@ module _ {p e : ℕ} (w : Fits p e) (x y : ℕ) (has : noRemainder (format p e) 
       → Reduces (format p e) x y ex sx ey sy
   reduces ex sx ey sy g a b c d =
       rw (a, b, c, d) (fmod-reduces (format p e) x y (infinity-some w) (remains (format p e) (infinity-some w) x y has) g)
+
+-- ---- a test as a number, which omega reads
+abbrev pub bit : Bool → ℕ
+bit b = cond b 1 0
+
+pub bit-one : (b : Bool) → bit b ≡ 1 → b ≡ true
+bit-one true e = refl
+bit-one false e = absurd (omega arith)
+
+pub bit-zero : (b : Bool) → bit b ≡ 0 → b ≡ false
+bit-zero true e = absurd (omega arith)
+bit-zero false e = refl

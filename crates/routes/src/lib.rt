@@ -43,7 +43,7 @@ pub fn by_division32(x: u32, e: u32, y: u32) -> u32
     (wide % y as u64) as u32
 }
 
-// A few steps cost less than a division, and a division less than the reducer's first round.
+// A step for each bit of a short shift, one division for a longer one, and from a word on the reducer.
 pub fn reduction64(x: u64, e: u32, y: u64) -> u64
     requires { ⌜ (0 < y) × (y < 2 ^ 62) × (e ≤ 4096) ⌝ }
     ensures { λ r. ⌜ r ≡ x * 2 ^ e % y ⌝ }
@@ -58,6 +58,7 @@ pub fn reduction64(x: u64, e: u32, y: u64) -> u64
     linear_mul_reduction64(near, e, y)
 }
 
+// Here the division is the machine's own, and no shift is too short for it.
 pub fn reduction32(x: u32, e: u32, y: u32) -> u32
     requires { ⌜ (0 < y) × (y < 2 ^ 30) × (e ≤ 4096) ⌝ }
     ensures { λ r. ⌜ r ≡ x * 2 ^ e % y ⌝ }
