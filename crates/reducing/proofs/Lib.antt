@@ -4,3 +4,4 @@ pub mod Steps
 pub mod Widths
 pub mod Rounds
 pub mod Scales
+pub mod Only
