@@ -2,27 +2,46 @@
 use Prim.Native.Nat.{ℕ, _+_, _-_, _*_, _/_, _%_, _^_, _≤_, _<_}
 use mathlib.Core.Path.{_≡_, sym, _∙_}
 use native.Mathlib.Omega.{arith}
+use native.Mathlib.Nat.{mod-eq-of-lt}
+use lib.Count.{leadingZeros}
 use lib.Pow.{pow-add, pow-pos, pow-mono}
 use Rattle.algebra.proofs.Products.{order, times, times-le, mul-eq-cancel}
 use Rattle.algebra.proofs.Powers.{pow-diff, pow-inj-lt}
 use Rattle.algebra.proofs.Quotients.{div-mod, div-is, mod-is}
-use Rattle.algebra.proofs.Leading.{Fills}
+use Rattle.algebra.proofs.Leading.{Fills, leading-fills}
 use Rattle.reducing.specs.Reducer.{Power}
 
--- y has z leading zeros: scaled by all but two of them it has two
+-- y has z leading zeros: scaled by all but two of them it has two, and loses no bit
 pub record Scaled (w y z : ℕ) : Type 0 where
   pub two : 2 ≤ z
+  pub few : z < w
   pub least : 2 ^ (w - 3) ≤ y * 2 ^ (z - 2)
   pub most : y * 2 ^ (z - 2) < 2 ^ (w - 2)
+  pub kept : y * 2 ^ (z - 2) % 2 ^ w ≡ y * 2 ^ (z - 2)
+  pub grown : y ≤ y * 2 ^ (z - 2)
 
-pub scaled : {w y z : ℕ} → 3 ≤ w → y < 2 ^ (w - 2) → Fills w y z → Scaled w y z
-scaled {w} {y} {z} l h f = record { two = two; least = omega (arith, parts, f .least, eighth); most = omega (arith, parts, f .most, quarter) }
+pub scaled : {w y : ℕ} → 3 ≤ w → 0 < y → y < 2 ^ (w - 2) → Scaled w y (leadingZeros w y)
+scaled {w} {y} l p h =
+    record {
+      two = two;
+      few = f .fewer;
+      least = omega (arith, parts, f .least, eighth);
+      most = omega (arith, parts, f .most, quarter);
+      kept = mod-eq-of-lt (omega (arith, parts, f .most));
+      grown = omega (arith, times-le y (pow-pos (z - 2)));
+    }
   where
+    z : ℕ
+    z = leadingZeros w y
+
     quarter : 2 ^ (w - 2) * 4 ≡ 2 ^ w
     quarter = pow-diff {a = w} {b = 2} (omega arith)
 
     eighth : 2 ^ (w - 3) * 8 ≡ 2 ^ w
     eighth = pow-diff {a = w} {b = 3} (omega arith)
+
+    f : Fills w y z
+    f = leading-fills w y p (omega (arith, h, quarter))
 
     two : 2 ≤ z
     two =
@@ -52,10 +71,10 @@ pub no-bits : (x e j : ℕ) → j ≤ e → 0 ≡ x * 2 ^ e % 2 ^ j
 no-bits x e j l = sym (mod-is (x * 2 ^ e) (2 ^ j) (x * 2 ^ (e - j)) 0 (pow-pos j) (omega (arith, times x (pow-diff l))))
 
 -- y 2 ^ s is a power of two only if y is
-pub power-scaled : (y s k : ℕ) → 0 < y → y * 2 ^ s ≡ 2 ^ k → (s ≤ k) × (y ≡ 2 ^ (k - s))
+pub power-scaled : (y s k : ℕ) → 0 < y → y * 2 ^ s ≡ 2 ^ k → Power y
 power-scaled y s k p e =
     let l : s < k + 1 = pow-inj-lt s (k + 1) (simp pow-add (omega (arith, e, times-le (2 ^ s) p, pow-pos k))) in
-    (omega arith, mul-eq-cancel y (2 ^ (k - s)) (2 ^ s) (pow-pos s) (e ∙ sym (pow-diff {a = k} {b = s} (omega arith))))
+    record { exponent = k - s; is = mul-eq-cancel y (2 ^ (k - s)) (2 ^ s) (pow-pos s) (e ∙ sym (pow-diff {a = k} {b = s} (omega arith))) }
 
 pub power-in-word : (w y : ℕ) → (p : Power y) → y < 2 ^ w → p .exponent < w
 power-in-word w y p l = pow-inj-lt (p .exponent) w (omega (arith, p .is))
