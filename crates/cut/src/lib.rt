@@ -5,9 +5,9 @@ ghost use lib.Signed.{mag};
 ghost use Rattle.cuts.specs.Cut.{below, place, stretched};
 ghost use Rattle.cuts.specs.Place.{Stands};
 ghost use Rattle.fields.specs.Width.{format, Fits};
+use bits::pow;
 use normal::normalised;
 use shed::shed;
-use shift::pow;
 
 // What normalised exponents are counted from: -2^21.
 const LIFT: u32 = 2097152;

@@ -3,7 +3,7 @@ ghost use mathlib.Core.Path.{_≡_};
 ghost use Prim.Native.Nat.{_+_, _<_, _^_};
 ghost use Rattle.ieee.specs.Pattern.{minus, field, fraction, signed};
 ghost use Rattle.fields.specs.Width.{format, Fits};
-use shift::pow;
+use bits::pow;
 
 pub fn exponent_field(frac: u32, expo: u32, x: u64) -> u64
     requires { ⌜ Fits frac expo ⌝ }

@@ -9,12 +9,12 @@ ghost use Rattle.ieee.specs.Round.{even};
 ghost use Rattle.cuts.specs.Cut.{part, chosen};
 ghost use Rattle.fields.specs.Width.{format, Fits};
 ghost use Rattle.scales.specs.Normal.{fullOf};
+use bits::pow;
 use fields::exponent_field;
 use fields::fraction_field;
 use fields::is_negative;
 use rounding::round::settled;
 use shed::shed;
-use shift::pow;
 
 // An infinity as it is, and for a NaN the canonical one.
 pub fn special(frac: u32, expo: u32, x: u64) -> u64

@@ -4,7 +4,7 @@ ghost use Prim.Native.Nat.{_+_, _-_, _*_, _/_, _<_, _^_};
 ghost use Rattle.ieee.specs.Format.{units, inf};
 ghost use Rattle.ieee.specs.Round.{exactly};
 ghost use Rattle.fields.specs.Width.{format, Fits};
-use shift::pow;
+use bits::pow;
 
 // The significand, with its implicit bit, and how far the exponent field is past 1: by nothing for subnormal numbers, which have no such bit.
 pub struct SigExp {

@@ -2,7 +2,7 @@
 ghost use mathlib.Core.Path.{_≡_};
 ghost use Prim.Native.Nat.{_+_, _*_, _≤_, _<_, _^_};
 ghost use Rattle.reducer32.specs.Held.{Holds32, held, Reduces32, Stepped32};
-use shift::low;
+use bits::low;
 
 // For the divisor n: m is 2n, and with R = 2^32 and RR/2 = qm + r the remainder x is kept as 2xq. The quotient q serves the start alone.
 pub struct Reducer32 {

@@ -2,8 +2,8 @@
 ghost use mathlib.Core.Path.{_≡_};
 ghost use Prim.Native.Nat.{_+_, _*_, _≤_, _<_, _^_};
 ghost use Rattle.reducer64.specs.Held.{Holds64, held, Reduces64, Stepped64};
+use bits::low;
 use division::div;
-use shift::low;
 use shift::shl;
 use words::Wide;
 use words::product::mul;

@@ -3,10 +3,10 @@ ghost use mathlib.Core.Path.{_≡_};
 ghost use mathlib.Core.Bool.{cond};
 ghost use Prim.Native.Nat.{_*_, _/_, _%_, _≤_, _<_, _^_};
 ghost use lib.Dec.{leb};
+use bits::above;
 use division::div;
 use modular32::linear_mul_reduction32;
 use modular64::linear_mul_reduction64;
-use shift::above;
 use stepwise::steps64;
 use words::Wide;
 

@@ -4,6 +4,7 @@ ghost use Rattle.ieee.specs.Pattern.{Pattern, field};
 ghost use Rattle.ieee.specs.Scalbn.{scalbnOf};
 ghost use Rattle.fields.specs.Width.{format, Fits};
 ghost use Rattle.scales.specs.Normal.{Normal};
+use bits::pow;
 use exponents::depth;
 use exponents::raised;
 use exponents::upper;
@@ -15,7 +16,6 @@ use moves::fallen;
 use moves::past_largest;
 use moves::with_field;
 use rounding::round::round;
-use shift::pow;
 
 // A normal x times 2^n: the exponent field moves, or bits of the significand fall below the smallest unit, or the value is past the largest number.
 pub fn of_normal(frac: u32, expo: u32, x: u64, n: i32) -> u64

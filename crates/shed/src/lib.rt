@@ -4,7 +4,7 @@ ghost use mathlib.Core.Bool.{cond};
 ghost use Prim.Native.Nat.{_/_, _%_, _^_, _≤_};
 ghost use lib.Dec.{eqb};
 ghost use Rattle.cuts.specs.Cut.{part};
-use shift::pow;
+use bits::pow;
 
 pub struct Parts {
     pub kept: u64,

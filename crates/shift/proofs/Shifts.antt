@@ -1,28 +1,12 @@
--- Numbers of one and of two words to a base B, times and by a power of two. A factor m stands for 2 ^ k where no law of powers is asked for. Assumes nothing.
-use mathlib.Core.Path.{_≡_, sym, ap, _∙_}
-use Prim.Native.Nat.{ℕ, _+_, _*_, _/_, _%_, _^_, _<_}
-use native.Mathlib.Nat.{mod-lt, div-add-mod', mul-div-mul-right, div-lt-iff-lt-mul}
+-- Numbers of two words to a base B, times and by a power of two. A factor m stands for 2 ^ k where no law of powers is asked for. Assumes nothing.
+use mathlib.Core.Path.{_≡_}
+use Prim.Native.Nat.{ℕ, _+_, _*_, _/_, _%_, _<_}
+use native.Mathlib.Nat.{mod-lt, div-add-mod', div-lt-iff-lt-mul}
 use native.Mathlib.Omega.{arith}
 use lib.Arith.{digits-lt}
-use lib.Pow.{pow-add, pow-pos, shr-shr}
 use Rattle.algebra.proofs.Products.{order, times, times-le, mul-lt-cancel}
-use Rattle.algebra.proofs.Quotients.{div-is, div-mod, mod-is, mod-scale}
+use Rattle.algebra.proofs.Quotients.{div-is, div-mod, mod-is}
 use Rattle.words.proofs.Pairs.{upper-is-word}
-
--- One word of w bits.
-
--- what passes the word, by two shifts the other way
-pub above-by-shifts : (w a i j k : ℕ) → i + j + k ≡ w → a / 2 ^ i / 2 ^ j ≡ a * 2 ^ k / 2 ^ w
-above-by-shifts w a i j k e =
-    shr-shr a i j ∙ sym (ap (λ x. a * 2 ^ k / 2 ^ x) (sym e) ∙ ap (λ x. a * 2 ^ k / x) (pow-add 2 (i + j) k) ∙ mul-div-mul-right {m = 2 ^ k} a (2 ^ (i + j)) (pow-pos k))
-
--- what falls below the word, by two shifts that wrap
-pub below-by-shifts : (B a i j : ℕ) → i + 1 ≡ j → (a * 2 ^ i % B * 2) % B ≡ a * 2 ^ j % B
-below-by-shifts B a i j e =
-    ap (λ x. x % B) (omega arith) ∙ mod-scale 2 (a * 2 ^ i) B ∙ ap (λ x. x % B) (omega (arith, times a p))
-  where
-    p : 2 ^ j ≡ 2 ^ i * 2
-    p = ap (λ x. 2 ^ x) (sym e) ∙ pow-add 2 i 1
 
 -- Two words, times m: the upper word takes what passes the lower.
 module _ (B m ah al : ℕ) (fits : (ah * B + al) * m < B * B) where

@@ -1,44 +1,20 @@
-// Shifts of a word and of two words, in which no bit goes unnoticed: what leaves a word is carried to the next or marked as lost.
+// Shifts of two words, in which no bit goes unnoticed: what leaves a word is carried to the next or marked as lost. Those of one word are handed on (`bits`).
 ghost use mathlib.Core.Path.{_≡_};
-ghost use Prim.Native.Nat.{_*_, _/_, _%_, _-_, _<_, _^_};
+ghost use Prim.Native.Nat.{_*_, _/_, _%_, _<_, _^_};
 ghost use lib.Dec.{ltb};
 ghost use Rattle.words.specs.Value.{value};
+pub use bits::Kept;
+pub use bits::above;
+pub use bits::below;
+pub use bits::low;
+pub use bits::pow;
+pub use bits::shr_lost;
 use words::Wide;
 
-// A word that was shifted right, and whether a bit that was not 0 left it.
-pub struct Kept {
-    pub word: u64,
-    pub lost: bool,
-}
-
-// The same of two words.
+// Two words that were shifted right, and whether a bit that was not 0 left them.
 pub struct Shifted {
     pub wide: Wide,
     pub lost: bool,
-}
-
-// 2^k.
-pub fn pow(k: u32) -> u64
-    requires { ⌜ k < 64 ⌝ }
-    ensures { λ r. ⌜ r ≡ 2 ^ k ⌝ }
-{
-    1 << k
-}
-
-// What of a * 2^k passes the word: the bits that a shift left by k drops. Two shifts, since for k = 0 one would be by the whole word.
-pub fn above(a: u64, k: u32) -> u64
-    requires { ⌜ k < 64 ⌝ }
-    ensures { λ r. ⌜ r ≡ a * 2 ^ k / 2 ^ 64 ⌝ }
-{
-    (a >> (63 - k)) >> 1
-}
-
-// What of a / 2^k lies below the word: the bits that a shift right by k drops, at the top of the word that they fall into.
-pub fn below(a: u64, k: u32) -> u64
-    requires { ⌜ k < 64 ⌝ }
-    ensures { λ r. ⌜ r ≡ a * 2 ^ (64 - k) % 2 ^ 64 ⌝ }
-{
-    (a << (63 - k)) << 1
 }
 
 // a * 2^k, where two words hold it.
@@ -59,34 +35,7 @@ pub fn shl(a: Wide, k: u32) -> Wide
     }
 }
 
-// a % 2^k: the bits that a shift right by k drops.
-pub fn low(a: u64, k: u32) -> u64
-    requires { ⌜ k < 64 ⌝ }
-    ensures { λ r. ⌜ r ≡ a % 2 ^ k ⌝ }
-{
-    let unit = pow(k);
-    a % unit
-}
-
-// a / 2^k for every k. The mark is read from a, which has the bits that leave, and not from the word, which has them no more.
-pub fn shr_lost(a: u64, k: u32) -> Kept
-    ensures { λ r. ⌜ (r .word ≡ a / 2 ^ k) × (r .lost ≡ ltb 0 (a % 2 ^ k)) ⌝ }
-{
-    if k >= 64 {
-        return Kept {
-            word: 0,
-            lost: 0 < a,
-        };
-    }
-    let word = a >> k;
-    let leaving = low(a, k);
-    Kept {
-        word: word,
-        lost: 0 < leaving,
-    }
-}
-
-// a / 2^k for every k, with the same mark. By a word or more, the whole low word leaves.
+// a / 2^k for every k, and the mark of what was lost. By a word or more, the whole low word leaves.
 pub fn shr(a: Wide, k: u32) -> Shifted
     ensures { λ r. ⌜ (value (r .wide) ≡ value a / 2 ^ k) × (r .lost ≡ ltb 0 (value a % 2 ^ k)) ⌝ }
 {

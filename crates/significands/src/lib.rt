@@ -11,10 +11,10 @@ ghost use Rattle.ieee.specs.Round.{exactly};
 ghost use Rattle.exponents.specs.Field.{above};
 ghost use Rattle.fields.specs.Width.{format, Fits};
 ghost use Rattle.significands.specs.Significand.{sigOf, expOf, unitsAt};
+use bits::pow;
 use fields::exponent_field;
 use fields::fraction_field;
 use packing::packed;
-use shift::pow;
 
 // sig times 2^(exp - 1) smallest units.
 pub struct Significand {

@@ -2,7 +2,7 @@
 ghost use mathlib.Core.Path.{_≡_};
 ghost use Rattle.fields.specs.Width.{format, Fits};
 ghost use Rattle.sorting.specs.Rows.{noRemainder};
-use shift::pow;
+use bits::pow;
 
 // Whether there is no remainder: x infinite or a NaN, y zero or a NaN. A zero less one wraps, to the far side of infinity, where the NaNs are.
 pub fn no_remainder(frac: u32, expo: u32, x: u64, y: u64) -> bool

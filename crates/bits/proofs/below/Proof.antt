@@ -1,9 +1,9 @@
--- `shift::below` meets its contract: its two shifts and k are a word together. Assumes nothing.
+-- `bits::below` meets its contract: its two shifts and k are a word together. Assumes nothing.
 use Prim.Native.Nat.{_-_, _^_}
 use native.Mathlib.Omega.{arith}
-use Rattle.shift.proofs.Shifts.{below-by-shifts}
-use Rattle.shift.proofs.below.Statement.{statement}
-use Rattle.shift.proofs.below.Tie as tie
+use Rattle.bits.proofs.TwoShifts.{below-by-shifts}
+use Rattle.bits.proofs.below.Statement.{statement}
+use Rattle.bits.proofs.below.Tie as tie
 
 sub-result : tie.Need-sub-result
 sub-result c = omega arith

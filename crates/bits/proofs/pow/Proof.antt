@@ -1,9 +1,9 @@
--- `shift::pow` meets its contract: a power below 2^64 does not wrap. Assumes nothing.
+-- `bits::pow` meets its contract: a power below 2^64 does not wrap. Assumes nothing.
 use native.Mathlib.Omega.{arith}
 use borrow.Author.Needs.{needs}
 use lib.Pow.{pow-lt}
-use Rattle.shift.proofs.pow.Statement.{statement}
-use Rattle.shift.proofs.pow.Tie as tie
+use Rattle.bits.proofs.pow.Statement.{statement}
+use Rattle.bits.proofs.pow.Tie as tie
 
 shl-result : tie.Need-shl-result
 shl-result c = search needs

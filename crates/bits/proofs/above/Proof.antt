@@ -1,8 +1,8 @@
--- `shift::above` meets its contract: its two shifts and k are a word together. Assumes nothing.
+-- `bits::above` meets its contract: its two shifts and k are a word together. Assumes nothing.
 use native.Mathlib.Omega.{arith}
-use Rattle.shift.proofs.Shifts.{above-by-shifts}
-use Rattle.shift.proofs.above.Statement.{statement}
-use Rattle.shift.proofs.above.Tie as tie
+use Rattle.bits.proofs.TwoShifts.{above-by-shifts}
+use Rattle.bits.proofs.above.Statement.{statement}
+use Rattle.bits.proofs.above.Tie as tie
 
 sub-result : tie.Need-sub-result
 sub-result c = omega arith

@@ -1,11 +1,11 @@
--- `shift::low` meets its contract: the divisor is a power of two. Assumes nothing.
+-- `bits::low` meets its contract: the divisor is a power of two. Assumes nothing.
 use mathlib.Core.Path.{_≡_, ap}
 use Prim.Native.Nat.{_%_, _^_}
 use native.Mathlib.Omega.{arith}
 use borrow.Author.Needs.{needs}
 use lib.Pow.{pow-pos}
-use Rattle.shift.proofs.low.Statement.{statement}
-use Rattle.shift.proofs.low.Tie as tie
+use Rattle.bits.proofs.low.Statement.{statement}
+use Rattle.bits.proofs.low.Tie as tie
 
 pow-requires : tie.Need-pow-requires
 pow-requires c κs = search needs

@@ -1,4 +1,4 @@
--- `shift::shr_lost` meets its contract: by a word or more the whole number leaves, and by less its rest. Assumes nothing.
+-- `bits::shr_lost` meets its contract: by a word or more the whole number leaves, and by less its rest. Assumes nothing.
 use mathlib.Core.Path.{_≡_, refl, sym, ap}
 use Prim.Native.Nat.{ℕ, _%_, _^_}
 use native.Mathlib.Omega.{arith}
@@ -6,8 +6,8 @@ use borrow.Author.Needs.{needs}
 use lib.Dec.{ltb}
 use lib.Pow.{pow-mono}
 use Rattle.algebra.proofs.Quotients.{div-is}
-use Rattle.shift.proofs.shr_lost.Statement.{statement}
-use Rattle.shift.proofs.shr_lost.Tie as tie
+use Rattle.bits.proofs.shr_lost.Statement.{statement}
+use Rattle.bits.proofs.shr_lost.Tie as tie
 
 returns : tie.Need-returns
 returns c =
