@@ -1,3 +1,2 @@
 -- Lemmas on plain numbers that the functions' proofs cite, each over a variable base.
-pub mod Digits
 pub mod LongDivision

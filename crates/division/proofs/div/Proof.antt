@@ -6,7 +6,7 @@ use native.Mathlib.Omega.{arith}
 use borrow.Author.Needs.{needs}
 use lib.Pow.{pow-pos, shr-lt}
 use Rattle.algebra.proofs.Quotients.{mod-is}
-use Rattle.division.proofs.Digits.{quotient-is-digit}
+use Rattle.digits.proofs.Digits.{quotient-is-digit}
 use Rattle.division.proofs.LongDivision.{lower-word-alone, scaled-fits, scaled-upper-below, quotient-of-digits}
 use Rattle.words.specs.Value.{value}
 use Rattle.division.proofs.div.Statement.{statement}

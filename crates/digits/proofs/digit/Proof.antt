@@ -1,14 +1,14 @@
--- `division::digit` meets its contract: the first estimate is at most two too large, two steps bring it to the digit, and what that leaves is one word.
+-- `digits::digit` meets its contract: the first estimate is at most two too large, two steps bring it to the digit, and what that leaves is one word.
 -- Assumes nothing.
 use mathlib.Core.Path.{_≡_, refl, ap, _∙_}
 use Prim.Native.Nat.{ℕ, _+_, _*_, _/_, _%_, _-_, _≤_, max}
 use native.Mathlib.Nat.{mod-lt, div-add-mod', le-max-left}
 use native.Mathlib.Omega.{arith}
 use borrow.Author.Needs.{needs}
-use Rattle.division.proofs.Digits.{two-steps-end, product-fits, estimate-ge, estimate-two, rest-unwraps}
-use Rattle.division.specs.Estimates.{divided}
-use Rattle.division.proofs.digit.Statement.{statement}
-use Rattle.division.proofs.digit.Tie as tie
+use Rattle.digits.proofs.Digits.{two-steps-end, product-fits, estimate-ge, estimate-two, rest-unwraps}
+use Rattle.digits.specs.Estimates.{divided}
+use Rattle.digits.proofs.digit.Statement.{statement}
+use Rattle.digits.proofs.digit.Tie as tie
 
 module _ (s : tie.Start) where
   abbrev B : ℕ

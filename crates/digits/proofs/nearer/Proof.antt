@@ -1,13 +1,13 @@
--- `division::nearer` meets its contract: the comparison tells whether the digit is too large, and is left out where it cannot be. Assumes nothing.
+-- `digits::nearer` meets its contract: the comparison tells whether the digit is too large, and is left out where it cannot be. Assumes nothing.
 use mathlib.Core.Path.{_≡_, refl}
 use Prim.Native.Nat.{ℕ, _+_, _*_, _/_, _%_, _-_, _≤_, _<_, max}
 use native.Mathlib.Omega.{arith, both-ways}
 use borrow.Author.Needs.{needs}
 use Rattle.algebra.proofs.Products.{diff}
-use Rattle.division.proofs.Digits.{step-stays, step-down, product-fits, large-rest, not-too-large, too-large}
-use Rattle.division.specs.Estimates.{divided}
-use Rattle.division.proofs.nearer.Statement.{statement}
-use Rattle.division.proofs.nearer.Tie as tie
+use Rattle.digits.proofs.Digits.{step-stays, step-down, product-fits, large-rest, not-too-large, too-large}
+use Rattle.digits.specs.Estimates.{divided}
+use Rattle.digits.proofs.nearer.Statement.{statement}
+use Rattle.digits.proofs.nearer.Tie as tie
 
 module _ (s : tie.Start) where
   abbrev B : ℕ

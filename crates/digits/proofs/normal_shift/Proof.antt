@@ -1,8 +1,8 @@
--- `division::normal_shift` meets its contract: a number moved up by its leading zeros fills its word. Assumes nothing.
+-- `digits::normal_shift` meets its contract: a number moved up by its leading zeros fills its word. Assumes nothing.
 use native.Mathlib.Omega.{arith}
 use Rattle.algebra.proofs.Leading.{leading-fills}
-use Rattle.division.proofs.normal_shift.Statement.{statement}
-use Rattle.division.proofs.normal_shift.Tie as tie
+use Rattle.digits.proofs.normal_shift.Statement.{statement}
+use Rattle.digits.proofs.normal_shift.Tie as tie
 
 returns : tie.Need-returns
 returns c = let fills = leading-fills 64 (c .args .d) (c .pre) (c .fits .d .fits) in (omega arith, omega arith, omega arith)
