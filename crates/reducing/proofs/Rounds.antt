@@ -41,12 +41,19 @@ after-start {w} {n} {x} {m} {r} {t} l a =
     let s = state-of l a in
     record { state = subst (λ h. State w n h m r t) (sym (s .holds)) s; left = subst (Left n x 0) (sym (s .holds)) (left-at-first n x) }
 
-pub after-step : {w n x i k m r t a m′ r′ t′ : ℕ} → 3 ≤ w → After w n x i m r t → Stepped w k m r t a m′ r′ t′ → After w n x (i + k) m′ r′ t′
+after-step : {w n x i k m r t a m′ r′ t′ : ℕ} → 3 ≤ w → After w n x i m r t → Stepped w k m r t a m′ r′ t′ → After w n x (i + k) m′ r′ t′
 after-step {w} {n} {x} {i} {k} {m} {r} {t} {a} {m′} {r′} {t′} l b s =
     record {
       state = state-of l (subst (λ j. Holds w j (heldOf w m′ t′) m′ r′ t′) (b .state .divisor) (s .holds));
       left = left-after (b .left) k a (heldOf w m′ t′) (s .parts ∙ ap (λ j. a * j + heldOf w m′ t′) (b .state .divisor));
     }
+
+-- with l of e bits left: a step by k of them, and the last, by all of them
+pub after-round : {w n x e l k m r t a m′ r′ t′ : ℕ} → 3 ≤ w → k ≤ l → l ≤ e → After w n x (e - l) m r t → Stepped w k m r t a m′ r′ t′ → After w n x (e - (l - k)) m′ r′ t′
+after-round {w} {n} {x} {m′ = m′} {r′} {t′} b c d p q = subst (λ i. After w n x i m′ r′ t′) (omega arith) (after-step b p q)
+
+pub after-last : {w n x e l m r t a m′ r′ t′ : ℕ} → 3 ≤ w → l ≤ e → After w n x (e - l) m r t → Stepped w l m r t a m′ r′ t′ → After w n x e m′ r′ t′
+after-last {w} {n} {x} {m′ = m′} {r′} {t′} b d p q = subst (λ i. After w n x i m′ r′ t′) (omega arith) (after-step b p q)
 
 -- what is left of what is held is left of x
 pub left-at-last : {n x i h : ℕ} → 0 < n → Left n x i h → h % n ≡ x * 2 ^ i % n
