@@ -1,0 +1,24 @@
+-- Infinity's pattern and one more exponent field are the sign bit (sorting: Sorts). Assumes nothing.
+use native.Mathlib.Omega.{arith}
+use borrow.Author.Needs.{needs}
+use Rattle.sorting.proofs.Sorts.{infinity-top}
+use Rattle.rows.proofs.infinity.Statement.{statement}
+use Rattle.rows.proofs.infinity.Tie as tie
+
+returns : tie.Need-returns
+returns c = omega (arith, c .before .pow .ensures, c .pow2 .ensures, infinity-top (c .before .before .pre))
+
+add-pow : tie.Need-add-pow
+add-pow c = search needs
+
+pow-requires : tie.Need-pow-requires
+pow-requires c κs = search needs
+
+pow-requires-2 : tie.Need-pow-requires-2
+pow-requires-2 c κs = search needs
+
+sub-result : tie.Need-sub-result
+sub-result c = omega (arith, c .before .pow .ensures, c .pow2 .ensures, infinity-top (c .before .before .pre))
+
+pub infinity-spec : {M : Type 1} → statement M
+infinity-spec = tie.close (tie.spec add-pow pow-requires pow-requires-2 sub-result returns)

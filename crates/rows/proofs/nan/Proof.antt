@@ -1,0 +1,29 @@
+-- The sum is the definition's, and stays below the sign bit (sorting: Sorts). Assumes nothing.
+use Prim.Native.Nat.{_-_}
+use native.Mathlib.Omega.{arith}
+use borrow.Author.Needs.{needs}
+use lib.Pow.{pow-mono}
+use Rattle.sorting.proofs.Sorts.{infinity-top, top-room}
+use Rattle.rows.proofs.nan.Statement.{statement}
+use Rattle.rows.proofs.nan.Tie as tie
+
+returns : tie.Need-returns
+returns c = search needs
+
+infinity-requires : tie.Need-infinity-requires
+infinity-requires c κs = search needs
+
+sub-pow : tie.Need-sub-pow
+sub-pow c = search needs
+
+pow-requires : tie.Need-pow-requires
+pow-requires c κs = search needs
+
+add-result : tie.Need-add-result
+add-result c =
+    let s = c .before .before in
+    let m = pow-mono {i = s .args .frac - 1} {j = s .args .frac} (omega arith) in
+    record { fits = omega (arith, c .before .infinity .ensures, c .pow .ensures, infinity-top (s .pre), top-room (s .pre)) }
+
+pub nan-spec : {M : Type 1} → statement M
+nan-spec = tie.close (tie.spec infinity-requires sub-pow pow-requires add-result returns)
