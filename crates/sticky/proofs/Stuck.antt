@@ -1,13 +1,14 @@
 -- What a number without its last bits keeps: it marks the number, and rounds as the number does. Assumes nothing.
-use Prim.Native.Nat.{ℕ, suc, _+_, _*_, _/_, _%_, _^_, _≤_, _<_}
+use Prim.Native.Nat.{ℕ, zero, suc, _+_, _*_, _/_, _%_, _^_, _≤_, _<_}
 use mathlib.Core.Path.{_≡_, sym, ap, _∙_}
 use mathlib.Core.Bool.{Bool, cond}
+use native.Mathlib.Nat.{two-pow-succ}
 use native.Mathlib.Omega.{arith}
 use borrow.Author.Tests.{ne-eqb}
 use lib.Dec.{eqb}
 use lib.Pow.{pow-pos, pow-add}
 use lib.IntN.{ℤ, pos, negsuc, _+ℤ_}
-use Rattle.algebra.proofs.Products.{times-le}
+use Rattle.algebra.proofs.Products.{order, times-le}
 use Rattle.algebra.proofs.Integers.{addZ}
 use Rattle.algebra.proofs.Quotients.{div-mod, div-is}
 use Rattle.ieee.specs.Format.{Format}
@@ -43,3 +44,19 @@ stuck-answer f g t v k (pos n) p h =
     sticky-answer f g t t (v * 2 ^ n) (stuck v k) (k + n) 0 (pos n +ℤ pos k) (omega (arith, times-le (2 ^ n) p, pow-pos n)) (omega (arith, addZ (pos n) (pos k))) m (λ l. h)
 stuck-answer f g t v k (negsuc n) p h =
     sticky-answer f g t t v (stuck v k) k (suc n) (negsuc n +ℤ pos k) p (omega (arith, addZ (negsuc n) (pos k))) (stuck-marks v k) (λ l. h)
+
+-- ---- how large it is
+pub stuck-le : (v k : ℕ) → stuck v k ≤ v
+stuck-le v k =
+    let (e, l) = div-mod v (2 ^ k) (pow-pos k) in
+    let m : v / 2 ^ k * 1 ≤ v / 2 ^ k * 2 ^ k = omega (arith, times-le (v / 2 ^ k) (pow-pos k)) in
+    order 1 (v % 2 ^ k) (λ h. omega (arith, stuck-lost v k h)) (λ h. omega (arith, stuck-exact v k (omega arith)))
+
+-- what lost a bit or more is at most half, and the mark
+pub stuck-half : (v k : ℕ) → 0 < k → 2 * stuck v k ≤ v + 2
+stuck-half v zero p = absurd (omega arith)
+stuck-half v (suc k) p =
+    let (e, l) = div-mod v (2 ^ suc k) (pow-pos (suc k)) in
+    let two : 2 ≤ 2 ^ suc k = omega (arith, two-pow-succ k, pow-pos k) in
+    let m : v / 2 ^ suc k * 2 ≤ v / 2 ^ suc k * 2 ^ suc k = omega (arith, times-le (v / 2 ^ suc k) two) in
+    order 1 (v % 2 ^ suc k) (λ h. omega (arith, stuck-lost v (suc k) h)) (λ h. omega (arith, stuck-exact v (suc k) (omega arith)))

@@ -1,0 +1,3 @@
+pub mod Alignment
+pub mod Sums
+pub mod Forms
