@@ -1,3 +1,6 @@
 pub mod Alignment
 pub mod Sums
 pub mod Forms
+pub mod Joined
+pub mod Places
+pub mod Fused

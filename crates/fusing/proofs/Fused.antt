@@ -1,0 +1,102 @@
+-- fma of numbers that are not zero is its count of steps, rounded once; and where the third number is zero, the product is. Assumes nothing.
+use Prim.Native.Nat.{ℕ, zero, suc, _+_, _*_, _^_, _≤_, _<_}
+use mathlib.Core.Path.{_≡_, refl, sym, ap, _∙_, subst}
+use mathlib.Core.Bool.{Bool, true, false}
+use native.Mathlib.Nat.{mul-le-mul}
+use native.Mathlib.Omega.{arith}
+use lib.Pow.{pow-add, pow-pos, pow-mono}
+use lib.IntN.{ℤ, pos, _+ℤ_, _*ℤ_}
+use Rattle.algebra.proofs.Products.{times, times-le, mul-le-cancel}
+use Rattle.algebra.proofs.Integers.{up, dn, addZ}
+use Rattle.ieee.specs.Format.{Format, Fair, low, inf, units}
+use Rattle.ieee.specs.Pattern.{minus, magnitude, unlike, withSign, value, finite, kind}
+use Rattle.ieee.specs.Exact.{dyadic}
+use Rattle.ieee.specs.Round.{ties-to-even, answer}
+use Rattle.ieee.specs.Scalbn.{scaled}
+use Rattle.ieee.specs.Fma.{fmaOf, zeroSign}
+use Rattle.ieee.proofs.Units.{units-zero, units-lt}
+use Rattle.ieee.proofs.Patterns.{value-is, kind-finite}
+use Rattle.ieee.proofs.Signs.{signed-times, signed-product, signed-zero}
+use Rattle.ieee.proofs.Fmas.{fma-answer, fma-rows, productSign, against}
+use Rattle.significands.specs.Significand.{sigOf}
+use Rattle.significands.proofs.Significands.{Normal, normal-is}
+use Rattle.norms.specs.Norm.{placeOf}
+use Rattle.norms.proofs.Asides.{Ordinary}
+use Rattle.fusing.specs.Aligned.{joined, joinedSign}
+use Rattle.fusing.specs.Fused.{productSig, thirdSig, aboveBy, productSteps, thirdSteps, fusedSteps, fusedSign, fusedPlace}
+use Rattle.fusing.proofs.Sums.{sum-signed, sign-first}
+use Rattle.fusing.proofs.Forms.{finer-answer, counted-answer}
+use Rattle.fusing.proofs.Joined.{Terms, sum-none, sum-sign, sum-answer}
+use Rattle.fusing.proofs.Places.{finer, product-place, product-whole, third-whole, above-is, fused-place, sized}
+
+-- ---- the exact sum of three finite numbers: the product and the third number in 2 ^ -low of the smallest unit, their sum, and its sign
+abbrev first : Format → ℕ → ℕ → ℕ
+first f x y = units f (magnitude f x) * units f (magnitude f y)
+
+abbrev second : Format → ℕ → ℕ
+second f z = units f (magnitude f z) * 2 ^ low f
+
+abbrev total : Format → ℕ → ℕ → ℕ → ℕ
+total f x y z = joined (against f x y z) (first f x y) (second f z)
+
+abbrev totalSign : Format → ℕ → ℕ → ℕ → Bool
+totalSign f x y z = joinedSign (productSign f x y) (minus f z) (first f x y) (second f z)
+
+module _ (f : Format) (x y z : ℕ) where
+  numerator : value f x *ℤ value f y +ℤ value f z *ℤ pos (2 ^ low f) ≡ withSign (totalSign f x y z) (total f x y z)
+  numerator =
+      let p = signed-product (minus f x) (minus f y) (units f (magnitude f x)) (units f (magnitude f y)) in
+      let q = signed-times (minus f z) (units f (magnitude f z)) (2 ^ low f) in
+      (λ i. value-is f x i *ℤ value-is f y i +ℤ value-is f z i *ℤ pos (2 ^ low f))
+      ∙ (λ i. p i +ℤ q i)
+      ∙ sum-signed (productSign f x y) (minus f z) (first f x y) (second f z)
+
+  total-answer : magnitude f x < inf f → magnitude f y < inf f → magnitude f z < inf f
+      → fmaOf f x y z ≡ answer f ties-to-even (zeroSign f ties-to-even x y z) (dyadic (withSign (totalSign f x y z) (total f x y z)) (low f))
+  unfolding fmaOf
+  total-answer p q r =
+      fma-answer f ties-to-even x y z (units f (magnitude f x)) (units f (magnitude f y)) (units f (magnitude f z)) (kind-finite f x p) (kind-finite f y q) (kind-finite f z r)
+      ∙ ap (λ n. answer f ties-to-even (zeroSign f ties-to-even x y z) (dyadic n (low f))) numerator
+
+  total-none : magnitude f x < inf f → magnitude f y < inf f → magnitude f z < inf f → 0 < first f x y → total f x y z ≡ 0 → fmaOf f x y z ≡ 0
+  unfolding fmaOf
+  total-none p q r l e =
+      fma-rows f ties-to-even x y z
+      .zero-sum (units f (magnitude f x)) (units f (magnitude f y)) (units f (magnitude f z)) (kind-finite f x p) (kind-finite f y q) (kind-finite f z r) l
+      (numerator ∙ ap (withSign (totalSign f x y z)) e ∙ signed-zero (totalSign f x y z)) (λ d. d)
+
+-- ---- and its count of steps
+module _ (f : Format) (g : Fair f) (l x y z : ℕ) (ox : Ordinary f x) (oy : Ordinary f y) (oz : Ordinary f z) where
+  -- so the product is not zero
+  product-some : 0 < first f x y
+  product-some = omega (arith, mul-le-mul (units-lt f (ox .least)) (units-lt f (oy .least)))
+
+  fused-terms : (ax ay az : ℕ) → Normal f x ax → Normal f y ay → Normal f z az
+      → Terms (2 ^ f .frac) (productSig f x y) (thirdSig f z) (ax + ay) (az + (f .frac + low f)) (first f x y) (second f z) (finer f) (aboveBy f x y z)
+  fused-terms ax ay az nx ny nz =
+      record {
+        sizes = sized f l x y z ax ay az nx ny nz;
+        first = product-whole f x y ax ay nx ny;
+        second = third-whole f z az nz;
+        above = above-is f l x y z ax ay az nx ny nz;
+      }
+
+  -- a zero sum of terms that are not zero is +0
+  pub fused-none : fusedSteps f l x y z ≡ 0 → fmaOf f x y z ≡ 0
+  fused-none e =
+      let (ax, nx) = normal-is f g x (ox .least) in
+      let (ay, ny) = normal-is f g y (oy .least) in
+      let (az, nz) = normal-is f g z (oz .least) in
+      total-none f x y z (ox .most) (oy .most) (oz .most) product-some (sum-none l (fused-terms ax ay az nx ny nz) (against f x y z) e)
+
+  -- and any other rounds as its count does
+  pub fused-own : 2 ≤ f .frac → 2 + f .frac ≤ l → 0 < fusedSteps f l x y z
+      → fmaOf f x y z ≡ answer f ties-to-even (fusedSign f l x y z) (scaled (fusedSign f l x y z) (fusedSteps f l x y z) (fusedPlace f l x y z))
+  fused-own two room some =
+      let (ax, nx) = normal-is f g x (ox .least) in
+      let (ay, ny) = normal-is f g y (oy .least) in
+      let (az, nz) = normal-is f g z (oz .least) in
+      let t = fused-terms ax ay az nx ny nz in
+      total-answer f x y z (ox .most) (oy .most) (oz .most)
+      ∙ ap (λ b. answer f ties-to-even (zeroSign f ties-to-even x y z) (dyadic (withSign b (total f x y z)) (low f))) (sum-sign l t (productSign f x y) (minus f z) some)
+      ∙ sum-answer f ties-to-even l (low f) (fusedPlace f l x y z) two room t (fused-place f l x y z ax ay az nx ny nz) (against f x y z) (zeroSign f ties-to-even x y z) (fusedSign f l x y z) some

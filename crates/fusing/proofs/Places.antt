@@ -1,0 +1,78 @@
+-- Where the terms of a fused sum stand, over whole numbers: the product at the exponent ax + ay, the third number at az + frac + low, both over 2 ^ (low + 2 frac + 1). Assumes nothing.
+use Prim.Native.Nat.{ℕ, suc, _+_, _-_, _*_, _%_, _^_, _≤_, _<_}
+use mathlib.Core.Path.{_≡_, sym, ap, _∙_}
+use native.Mathlib.Nat.{two-pow-succ, mul-le-mul}
+use native.Mathlib.Omega.{arith}
+use lib.Pow.{pow-add, pow-pos}
+use lib.IntN.{ℤ, pos, _+ℤ_, _-ℤ_}
+use Rattle.algebra.proofs.Products.{times, times-le, cross}
+use Rattle.algebra.proofs.Integers.{up, dn, addZ, subZ, eqZ-fact}
+use Rattle.ieee.specs.Format.{Format, low, units}
+use Rattle.ieee.specs.Pattern.{magnitude}
+use Rattle.significands.specs.Significand.{sigOf, expOf}
+use Rattle.significands.proofs.Significands.{Normal}
+use Rattle.norms.specs.Norm.{placeOf}
+use Rattle.fusing.specs.Aligned.{downBy}
+use Rattle.fusing.specs.Fused.{productSig, thirdSig, aboveBy, fusedPlace}
+use Rattle.fusing.proofs.Alignment.{Sized}
+
+module _ (f : Format) (x ax : ℕ) (n : Normal f x ax) where
+  -- a number is sigOf f x times 2 ^ (ax - (frac + low))
+  pub place-is : up (placeOf f x) + (f .frac + low f) ≡ dn (placeOf f x) + ax
+  place-is = omega (arith, subZ (expOf f x) (pos (suc (low f))), eqZ-fact (n .exponent), subZ (pos (suc ax)) (pos (f .frac)))
+
+-- the power of two that makes the counts whole, doubled
+abbrev pub finer : Format → ℕ
+finer f = suc (f .frac + f .frac)
+
+pub finer-is : (f : Format) → 2 ^ finer f ≡ 2 * 2 ^ f .frac * 2 ^ f .frac
+finer-is f = omega (arith, two-pow-succ (f .frac + f .frac), pow-add 2 (f .frac) (f .frac))
+
+module _ (f : Format) (x y ax ay : ℕ) (nx : Normal f x ax) (ny : Normal f y ay) where
+  pub product-place : up (placeOf f x +ℤ placeOf f y) + (f .frac + low f + (f .frac + low f)) ≡ dn (placeOf f x +ℤ placeOf f y) + (ax + ay)
+  product-place = omega (arith, addZ (placeOf f x) (placeOf f y), place-is f x ax nx, place-is f y ay ny)
+
+  product-counts : units f (magnitude f x) * units f (magnitude f y) * (2 ^ f .frac * 2 ^ f .frac) ≡ sigOf f x * sigOf f y * 2 ^ (ax + ay)
+  product-counts =
+      let both : units f (magnitude f x) * 2 ^ f .frac * (units f (magnitude f y) * 2 ^ f .frac) ≡ sigOf f x * 2 ^ ax * (sigOf f y * 2 ^ ay) =
+      (λ i. nx .counts i * ny .counts i) in
+      omega (arith, both, times (sigOf f x * sigOf f y) (pow-add 2 ax ay))
+
+  pub product-whole : units f (magnitude f x) * units f (magnitude f y) * 2 ^ finer f ≡ productSig f x y * 2 ^ (ax + ay)
+  product-whole = omega (arith, times (units f (magnitude f x) * units f (magnitude f y)) (finer-is f), product-counts)
+
+module _ (f : Format) (z az : ℕ) (nz : Normal f z az) where
+  pub third-whole : units f (magnitude f z) * 2 ^ low f * 2 ^ finer f ≡ thirdSig f z * 2 ^ (az + (f .frac + low f))
+  third-whole =
+      omega (
+        arith,
+        times (units f (magnitude f z) * 2 ^ low f) (finer-is f),
+        times (2 * 2 ^ f .frac * 2 ^ low f) (nz .counts),
+        times (sigOf f z) (pow-add 2 az (f .frac + low f)),
+        times (sigOf f z * 2 ^ az) (pow-add 2 (f .frac) (low f)),
+      )
+
+module _ (f : Format) (l x y z ax ay az : ℕ) (nx : Normal f x ax) (ny : Normal f y ay) (nz : Normal f z az) where
+  pub above-is : up (aboveBy f x y z) + (ax + ay) ≡ dn (aboveBy f x y z) + (az + (f .frac + low f))
+  above-is =
+      omega (arith, subZ (placeOf f z) (placeOf f x +ℤ placeOf f y), place-is f z az nz, product-place f x y ax ay nx ny)
+
+  pub fused-place : up (fusedPlace f l x y z) + (low f + finer f) ≡ dn (fusedPlace f l x y z) + (ax + ay + downBy l (aboveBy f x y z))
+  fused-place =
+      let xy : ℤ = placeOf f x +ℤ placeOf f y in
+      let k : ℕ = downBy l (aboveBy f x y z) in
+      omega (arith, subZ (xy +ℤ pos (low f) +ℤ pos k) (pos 1), addZ (xy +ℤ pos (low f)) (pos k), addZ xy (pos (low f)), product-place f x y ax ay nx ny)
+
+  pub sized : Sized (2 ^ f .frac) (productSig f x y) (thirdSig f z)
+  sized =
+      record {
+        even-p = omega arith;
+        even-q = omega arith;
+        least-p = omega (arith, mul-le-mul (nx .least) (ny .least));
+        most-p = omega (arith, most);
+        least-q = omega (arith, nz .least);
+        most-q = omega (arith, nz .most);
+      }
+    where
+      most : sigOf f x * sigOf f y < 2 * 2 ^ f .frac * (2 * 2 ^ f .frac)
+      most = omega (arith, mul-le-mul (nx .most) (ny .most))
