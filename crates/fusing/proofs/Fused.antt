@@ -27,7 +27,7 @@ use Rattle.fusing.specs.Fused.{productSig, thirdSig, aboveBy, productSte
 use Rattle.fusing.proofs.Sums.{sum-signed, sign-first}
 use Rattle.fusing.proofs.Forms.{finer-answer, counted-answer}
 use Rattle.fusing.proofs.Joined.{Terms, sum-none, sum-sign, sum-answer}
-use Rattle.fusing.proofs.Places.{finer, product-place, product-whole, third-whole, above-is, fused-place, sized}
+use Rattle.fusing.proofs.Places.{finer, product-place, product-counts, product-whole, third-whole, above-is, fused-place, sized}
 
 -- ---- the exact sum of three finite numbers: the product and the third number in 2 ^ -low of the smallest unit, their sum, and its sign
 abbrev first : Format → ℕ → ℕ → ℕ
@@ -65,12 +65,12 @@ module _ (f : Format) (x y z : ℕ) where
       .zero-sum (units f (magnitude f x)) (units f (magnitude f y)) (units f (magnitude f z)) (kind-finite f x p) (kind-finite f y q) (kind-finite f z r) l
       (numerator ∙ ap (withSign (totalSign f x y z)) e ∙ signed-zero (totalSign f x y z)) (λ d. d)
 
+-- the product of numbers that are not zero is none
+product-some : (f : Format) (x y : ℕ) → Ordinary f x → Ordinary f y → 0 < first f x y
+product-some f x y ox oy = omega (arith, mul-le-mul (units-lt f (ox .least)) (units-lt f (oy .least)))
+
 -- ---- and its count of steps
 module _ (f : Format) (g : Fair f) (l x y z : ℕ) (ox : Ordinary f x) (oy : Ordinary f y) (oz : Ordinary f z) where
-  -- so the product is not zero
-  product-some : 0 < first f x y
-  product-some = omega (arith, mul-le-mul (units-lt f (ox .least)) (units-lt f (oy .least)))
-
   fused-terms : (ax ay az : ℕ) → Normal f x ax → Normal f y ay → Normal f z az
       → Terms (2 ^ f .frac) (productSig f x y) (thirdSig f z) (ax + ay) (az + (f .frac + low f)) (first f x y) (second f z) (finer f) (aboveBy f x y z)
   fused-terms ax ay az nx ny nz =
@@ -87,7 +87,7 @@ module _ (f : Format) (g : Fair f) (l x y z : ℕ) (ox : Ordinary f x) (oy : Ord
       let (ax, nx) = normal-is f g x (ox .least) in
       let (ay, ny) = normal-is f g y (oy .least) in
       let (az, nz) = normal-is f g z (oz .least) in
-      total-none f x y z (ox .most) (oy .most) (oz .most) product-some (sum-none l (fused-terms ax ay az nx ny nz) (against f x y z) e)
+      total-none f x y z (ox .most) (oy .most) (oz .most) (product-some f x y ox oy) (sum-none l (fused-terms ax ay az nx ny nz) (against f x y z) e)
 
   -- and any other rounds as its count does
   pub fused-own : 2 ≤ f .frac → 2 + f .frac ≤ l → 0 < fusedSteps f l x y z
@@ -100,3 +100,31 @@ module _ (f : Format) (g : Fair f) (l x y z : ℕ) (ox : Ordinary f x) (oy : Ord
       total-answer f x y z (ox .most) (oy .most) (oz .most)
       ∙ ap (λ b. answer f ties-to-even (zeroSign f ties-to-even x y z) (dyadic (withSign b (total f x y z)) (low f))) (sum-sign l t (productSign f x y) (minus f z) some)
       ∙ sum-answer f ties-to-even l (low f) (fusedPlace f l x y z) two room t (fused-place f l x y z ax ay az nx ny nz) (against f x y z) (zeroSign f ties-to-even x y z) (fusedSign f l x y z) some
+
+-- ---- the product alone
+joined-nothing : (u : Bool) (a : ℕ) → joined u a 0 ≡ a
+joined-nothing false a = omega arith
+joined-nothing true a = omega arith
+
+module _ (f : Format) (g : Fair f) (x y z : ℕ) (ox : Ordinary f x) (oy : Ordinary f y) (none : magnitude f z ≡ 0) where
+  no-second : second f z ≡ 0
+  no-second = omega (arith, times (2 ^ low f) (ap (units f) none ∙ units-zero f))
+
+  -- a product that rounds to zero keeps its sign
+  pub product-alone : fmaOf f x y z
+      ≡ answer f ties-to-even (unlike (minus f x) (minus f y)) (scaled (unlike (minus f x) (minus f y)) (sigOf f x * sigOf f y) (placeOf f x +ℤ placeOf f y +ℤ pos (low f)))
+  product-alone =
+      let (ax, nx) = normal-is f g x (ox .least) in
+      let (ay, ny) = normal-is f g y (oy .least) in
+      let s = productSign f x y in
+      let c = zeroSign f ties-to-even x y z in
+      let e : joined (against f x y z) (first f x y) (second f z) ≡ first f x y = ap (joined (against f x y z) (first f x y)) no-second ∙ joined-nothing (against f x y z) (first f x y) in
+      let h : joinedSign s (minus f z) (first f x y) (second f z) ≡ s = sign-first s (minus f z) (first f x y) (second f z) (omega (arith, no-second)) in
+      let some : 0 < first f x y = product-some f x y ox oy in
+      total-answer f x y z (ox .most) (oy .most) (omega (arith, ox .most))
+      ∙ (λ i. answer f ties-to-even c (dyadic (withSign (h i) (e i)) (low f)))
+      ∙ finer-answer f ties-to-even c s (first f x y) (low f) (f .frac + f .frac) some
+      ∙ counted-answer f ties-to-even c s (first f x y * 2 ^ (f .frac + f .frac)) (sigOf f x * sigOf f y) (ax + ay) (low f + (f .frac + f .frac)) (placeOf f x +ℤ placeOf f y +ℤ pos (low f))
+      (omega (arith, times-le (2 ^ (f .frac + f .frac)) some, pow-pos (f .frac + f .frac)))
+      (omega (arith, addZ (placeOf f x +ℤ placeOf f y) (pos (low f)), product-place f x y ax ay nx ny))
+      (product-counts f x y ax ay nx ny)

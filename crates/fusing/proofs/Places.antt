@@ -32,14 +32,14 @@ module _ (f : Format) (x y ax ay : ℕ) (nx : Normal f x ax) (ny : Normal f y ay
   pub product-place : up (placeOf f x +ℤ placeOf f y) + (f .frac + low f + (f .frac + low f)) ≡ dn (placeOf f x +ℤ placeOf f y) + (ax + ay)
   product-place = omega (arith, addZ (placeOf f x) (placeOf f y), place-is f x ax nx, place-is f y ay ny)
 
-  product-counts : units f (magnitude f x) * units f (magnitude f y) * (2 ^ f .frac * 2 ^ f .frac) ≡ sigOf f x * sigOf f y * 2 ^ (ax + ay)
+  pub product-counts : units f (magnitude f x) * units f (magnitude f y) * 2 ^ (f .frac + f .frac) ≡ sigOf f x * sigOf f y * 2 ^ (ax + ay)
   product-counts =
       let both : units f (magnitude f x) * 2 ^ f .frac * (units f (magnitude f y) * 2 ^ f .frac) ≡ sigOf f x * 2 ^ ax * (sigOf f y * 2 ^ ay) =
       (λ i. nx .counts i * ny .counts i) in
-      omega (arith, both, times (sigOf f x * sigOf f y) (pow-add 2 ax ay))
+      omega (arith, both, times (sigOf f x * sigOf f y) (pow-add 2 ax ay), times (units f (magnitude f x) * units f (magnitude f y)) (pow-add 2 (f .frac) (f .frac)))
 
   pub product-whole : units f (magnitude f x) * units f (magnitude f y) * 2 ^ finer f ≡ productSig f x y * 2 ^ (ax + ay)
-  product-whole = omega (arith, times (units f (magnitude f x) * units f (magnitude f y)) (finer-is f), product-counts)
+  product-whole = omega (arith, times (units f (magnitude f x) * units f (magnitude f y)) (two-pow-succ (f .frac + f .frac)), product-counts)
 
 module _ (f : Format) (z az : ℕ) (nz : Normal f z az) where
   pub third-whole : units f (magnitude f z) * 2 ^ low f * 2 ^ finer f ≡ thirdSig f z * 2 ^ (az + (f .frac + low f))
