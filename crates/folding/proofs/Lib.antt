@@ -1,0 +1,2 @@
+-- Lemmas on plain numbers that the functions' proofs cite.
+pub mod Folds
