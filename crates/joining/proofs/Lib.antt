@@ -1,0 +1,2 @@
+-- Lemmas that the functions' proofs cite, over whole numbers.
+pub mod Joins

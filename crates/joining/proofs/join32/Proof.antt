@@ -1,0 +1,24 @@
+-- Each way is the sum by the signs and the order (Joins). Assumes nothing.
+use mathlib.Core.Path.{refl}
+use borrow.Author.Needs.{needs}
+use Rattle.joining.proofs.Joins.{joins-alike, joins-less, joins-no-less}
+use Rattle.joining.proofs.join32.Statement.{statement}
+use Rattle.joining.proofs.join32.Tie as tie
+
+returns : tie.Need-returns
+returns c = let s = c .before .args in joins-alike (s .s) (s .t) (s .a) (s .b) _ (c .if1 .taken) refl
+
+returns-2 : tie.Need-returns-2
+returns-2 c = let s = c .before .before .args in joins-less (s .s) (s .t) (s .a) (s .b) _ (c .before .if1 .left) (c .if2 .taken) refl
+
+returns-3 : tie.Need-returns-3
+returns-3 c = let s = c .before .before .args in joins-no-less (s .s) (s .t) (s .a) (s .b) _ (c .before .if1 .left) (c .if2 .left) refl
+
+add-t6 : tie.Need-add-t6
+add-t6 c = search needs
+
+sub-t7 : tie.Need-sub-t7
+sub-t7 c = search needs
+
+pub join32-spec : {M : Type 1} → statement M
+join32-spec = tie.close (tie.spec add-t6 returns sub-t7 returns-2 returns-3)

@@ -1,0 +1,56 @@
+// The sum of two magnitudes with signs, and its sign: of two words, and of one.
+ghost use mathlib.Core.Path.{_≡_};
+ghost use Prim.Native.Nat.{_+_, _<_, _^_};
+ghost use Rattle.ieee.specs.Pattern.{unlike};
+ghost use Rattle.words.specs.Value.{value};
+ghost use Rattle.fusing.specs.Aligned.{joined, joinedSign};
+use words::Wide;
+use words::sum::add;
+use words::sum::less;
+use words::sum::sub;
+
+pub struct Joined64 {
+    pub sum: Wide,
+    pub neg: bool,
+}
+
+pub struct Joined32 {
+    pub sum: u64,
+    pub neg: bool,
+}
+
+// a with the sign s and b with the sign t. Of unlike signs the lesser is taken from the greater, whose sign stays.
+pub fn join64(a: Wide, b: Wide, s: bool, t: bool) -> Joined64
+    requires { ⌜ value a + value b < 2 ^ 128 ⌝ }
+    ensures { λ r. ⌜ (value (r .sum) ≡ joined (unlike s t) (value a) (value b)) × (r .neg ≡ joinedSign s t (value a) (value b)) ⌝ }
+{
+    if s == t {
+        return Joined64 {
+            sum: add(a, b),
+            neg: s,
+        };
+    }
+    if less(a, b) {
+        return Joined64 {
+            sum: sub(b, a),
+            neg: t,
+        };
+    }
+    Joined64 {
+        sum: sub(a, b),
+        neg: s,
+    }
+}
+
+pub fn join32(a: u64, b: u64, s: bool, t: bool) -> Joined32
+    requires { ⌜ a + b < 2 ^ 64 ⌝ }
+    ensures { λ r. ⌜ (r .sum ≡ joined (unlike s t) a b) × (r .neg ≡ joinedSign s t a b) ⌝ }
+{
+    if s == t {
+        return Joined32 { sum: a + b, neg: s };
+    }
+    if a < b {
+        return Joined32 { sum: b - a, neg: t };
+    }
+    Joined32 { sum: a - b, neg: s }
+}
