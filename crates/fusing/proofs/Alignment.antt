@@ -1,9 +1,9 @@
 -- Two numbers in steps of one size: one count is exact and even, the other marks its number. Assumes nothing.
-use Prim.Native.Nat.{ℕ, zero, suc, _+_, _-_, _*_, _/_, _%_, _^_, _≤_, _<_, min}
-use mathlib.Core.Path.{_≡_, refl, sym, ap, _∙_, subst}
+use Prim.Native.Nat.{ℕ, suc, _+_, _-_, _*_, _/_, _%_, _^_, _≤_, _<_, min}
+use mathlib.Core.Path.{_≡_, sym, ap, _∙_, subst}
 use mathlib.Core.Bool.{Bool, true, false}
 use native.Mathlib.Omega.{arith}
-use lib.Pow.{pow-add, pow-pos, pow-mono}
+use lib.Pow.{pow-add, pow-pos}
 use lib.IntN.{ℤ, pos, negsuc}
 use Rattle.algebra.proofs.Products.{order, times, times-le}
 use Rattle.algebra.proofs.Integers.{up, dn}
@@ -18,24 +18,29 @@ pub data Level (P Q n a b : ℕ) : Type 0 where
   first-whole : P ≡ a * n → a % 2 ≡ 0 → Marks Q n b → Level P Q n a b
   second-whole : Q ≡ b * n → b % 2 ≡ 0 → Marks P n a → Level P Q n a b
 
+-- q, n places above A, goes up by l at most, and the step by the rest
+third-up : (l q n A B : ℕ) → n + A ≡ B → q * 2 ^ B ≡ q * 2 ^ min n l * 2 ^ (A + (n - l))
+third-up l q n A B e = omega (arith, times q level)
+  where
+    level : 2 ^ B ≡ 2 ^ min n l * 2 ^ (A + (n - l))
+    level = ap (λ k. 2 ^ k) (omega arith) ∙ pow-add 2 (min n l) (A + (n - l))
+
 -- p stands at the exponent A and q at B, which is d above
 pub aligned : (l p q A B : ℕ) (d : ℤ) → p % 2 ≡ 0 → q % 2 ≡ 0 → up d + A ≡ dn d + B
     → Level (p * 2 ^ A) (q * 2 ^ B) (2 ^ (A + downBy l d)) (productAt l p d) (thirdAt l q d)
 unfolding productAt thirdAt
-aligned l p q A B (pos n) e h w = second-whole third (omega (arith, times (2 ^ min n l) half)) (subst (λ k. Marks (p * 2 ^ A) k (stuck p (n - l))) step (marks-times (stuck-marks p (n - l)) (2 ^ A) (pow-pos A)))
+aligned l p q A B (pos n) e h w =
+    second-whole (third-up l q n A B (omega arith)) (omega (arith, times (2 ^ min n l) half))
+    (subst (λ k. Marks (p * 2 ^ A) k (stuck p (n - l))) step (marks-times (stuck-marks p (n - l)) (2 ^ A) (pow-pos A)))
   where
     half : q ≡ q / 2 * 2
     half = omega arith
 
     step : 2 ^ (n - l) * 2 ^ A ≡ 2 ^ (A + (n - l))
     step = omega (arith, pow-add 2 A (n - l))
-
-    level : 2 ^ B ≡ 2 ^ min n l * 2 ^ (A + (n - l))
-    level = ap (λ k. 2 ^ k) (omega arith) ∙ pow-add 2 (min n l) (A + (n - l))
-
-    third : q * 2 ^ B ≡ q * 2 ^ min n l * 2 ^ (A + (n - l))
-    third = omega (arith, times q level)
-aligned l p q A B (negsuc n) e h w = first-whole (ap (λ k. p * 2 ^ k) (omega arith)) e (subst (λ k. Marks (q * 2 ^ B) k (stuck q (suc n))) step (marks-times (stuck-marks q (suc n)) (2 ^ B) (pow-pos B)))
+aligned l p q A B (negsuc n) e h w =
+    first-whole (ap (λ k. p * 2 ^ k) (omega arith)) e
+    (subst (λ k. Marks (q * 2 ^ B) k (stuck q (suc n))) step (marks-times (stuck-marks q (suc n)) (2 ^ B) (pow-pos B)))
   where
     step : 2 ^ suc n * 2 ^ B ≡ 2 ^ (A + 0)
     step = sym (pow-add 2 (suc n) B) ∙ ap (λ k. 2 ^ k) (omega arith)
@@ -74,11 +79,9 @@ module _ (l h p q : ℕ) (z : Sized h p q) (four : 4 ≤ h) (room : 4 * h ≤ 2 
       order n l
       (λ w.
       let none : n - l ≡ 0 = omega arith in
-      let m : min n l ≡ n = omega arith in
       let same : stuck p (n - l) ≡ p = ap (stuck p) none ∙ stuck-none p in
-      let up-by : 2 ^ B ≡ 2 ^ min n l * 2 ^ (A + (n - l)) = ap (λ k. 2 ^ k) (omega arith) ∙ pow-add 2 (min n l) (A + (n - l)) in
       let here : A ≡ A + (n - l) = omega arith in
-      whole (λ i. sym same i * 2 ^ here i) (omega (arith, times q up-by)))
+      whole (λ i. sym same i * 2 ^ here i) (third-up l q n A B (omega arith)))
       (λ w.
       let m : min n l ≡ l = omega arith in
       let above : 8 * h * h ≤ q * 2 ^ min n l = rw m (omega (arith, times-le (2 ^ l) (z .least-q), times-le h room)) in

@@ -12,7 +12,7 @@ use Rattle.ieee.specs.Pattern.{signed, withSign}
 use Rattle.ieee.specs.Exact.{dyadic, ratio}
 use Rattle.ieee.specs.Round.{Attribute, wayOf, rounded, answer}
 use Rattle.ieee.specs.Scalbn.{scaled}
-use Rattle.ieee.proofs.Alike.{Places, same-side}
+use Rattle.ieee.proofs.Alike.{Beside, Places, same-side}
 use Rattle.ieee.proofs.Exacts.{answer-of, sign-given}
 use Rattle.cuts.proofs.Stretched.{same-ratio, ratio-stretched}
 use Rattle.rounding.proofs.Scaled.{answer-scaled}
@@ -22,11 +22,14 @@ pub finer-answer : (f : Format) (g : Attribute) (z t : Bool) (v b c : ℕ) → 0
     → answer f g z (dyadic (withSign t v) b) ≡ answer f g z (dyadic (withSign t (v * 2 ^ c)) (b + c))
 finer-answer f g z t v b c p =
     answer-of f g z t v b (sign-given z t v b p)
-    ∙ ap (signed f t) (same-side f (wayOf g t) (ratio v (2 ^ b)) (ratio (v * 2 ^ c) (2 ^ (b + c))) (λ j l. same-ratio v (2 ^ b) (v * 2 ^ c) (2 ^ (b + c)) (pow-pos b) (pow-pos (b + c)) level (Places f (wayOf g t) j)))
+    ∙ ap (signed f t) (same-side f (wayOf g t) (ratio v (2 ^ b)) (ratio (v * 2 ^ c) (2 ^ (b + c))) (λ j l. beside (Places f (wayOf g t) j)))
     ∙ sym (answer-of f g z t (v * 2 ^ c) (b + c) (sign-given z t (v * 2 ^ c) (b + c) (omega (arith, times-le (2 ^ c) p, pow-pos c))))
   where
     level : v * 2 ^ (b + c) ≡ v * 2 ^ c * 2 ^ b
     level = omega (arith, times v (pow-add 2 b c))
+
+    beside : (j : ℕ) → Beside (ratio v (2 ^ b)) (ratio (v * 2 ^ c) (2 ^ (b + c))) j
+    beside = same-ratio v (2 ^ b) (v * 2 ^ c) (2 ^ (b + c)) (pow-pos b) (pow-pos (b + c)) level
 
 -- s steps of 2 ^ a / 2 ^ b, which is 2 ^ n
 pub counted-answer : (f : Format) (g : Attribute) (z t : Bool) (v s a b : ℕ) (n : ℤ) → 0 < v → up n + b ≡ dn n + a → v ≡ s * 2 ^ a

@@ -1,15 +1,15 @@
 -- fma of numbers that are not zero is its count of steps, rounded once; and where the third number is zero, the product is. Assumes nothing.
-use Prim.Native.Nat.{ℕ, zero, suc, _+_, _*_, _^_, _≤_, _<_}
-use mathlib.Core.Path.{_≡_, refl, sym, ap, _∙_, subst}
+use Prim.Native.Nat.{ℕ, _+_, _*_, _^_, _≤_, _<_}
+use mathlib.Core.Path.{_≡_, ap, _∙_}
 use mathlib.Core.Bool.{Bool, true, false}
 use native.Mathlib.Nat.{mul-le-mul}
 use native.Mathlib.Omega.{arith}
-use lib.Pow.{pow-add, pow-pos, pow-mono}
+use lib.Pow.{pow-pos}
 use lib.IntN.{ℤ, pos, _+ℤ_, _*ℤ_}
-use Rattle.algebra.proofs.Products.{times, times-le, mul-le-cancel}
-use Rattle.algebra.proofs.Integers.{up, dn, addZ}
+use Rattle.algebra.proofs.Products.{times, times-le}
+use Rattle.algebra.proofs.Integers.{addZ}
 use Rattle.ieee.specs.Format.{Format, Fair, low, inf, units}
-use Rattle.ieee.specs.Pattern.{minus, magnitude, unlike, withSign, value, finite, kind}
+use Rattle.ieee.specs.Pattern.{minus, magnitude, unlike, withSign, value}
 use Rattle.ieee.specs.Exact.{dyadic}
 use Rattle.ieee.specs.Round.{ties-to-even, answer}
 use Rattle.ieee.specs.Scalbn.{scaled}
@@ -23,7 +23,7 @@ use Rattle.significands.proofs.Significands.{Normal, normal-is}
 use Rattle.norms.specs.Norm.{placeOf}
 use Rattle.norms.proofs.Asides.{Ordinary}
 use Rattle.fusing.specs.Aligned.{joined, joinedSign}
-use Rattle.fusing.specs.Fused.{productSig, thirdSig, aboveBy, productSteps, thirdSteps, fusedSteps, fusedSign, fusedPlace}
+use Rattle.fusing.specs.Fused.{productSig, thirdSig, aboveBy, fusedSteps, fusedSign, fusedPlace}
 use Rattle.fusing.proofs.Sums.{sum-signed, sign-first}
 use Rattle.fusing.proofs.Forms.{finer-answer, counted-answer}
 use Rattle.fusing.proofs.Joined.{Terms, sum-none, sum-sign, sum-answer}
@@ -75,10 +75,10 @@ module _ (f : Format) (g : Fair f) (l x y z : ℕ) (ox : Ordinary f x) (oy : Ord
       → Terms (2 ^ f .frac) (productSig f x y) (thirdSig f z) (ax + ay) (az + (f .frac + low f)) (first f x y) (second f z) (finer f) (aboveBy f x y z)
   fused-terms ax ay az nx ny nz =
       record {
-        sizes = sized f l x y z ax ay az nx ny nz;
+        sizes = sized f x y z ax ay az nx ny nz;
         first = product-whole f x y ax ay nx ny;
         second = third-whole f z az nz;
-        above = above-is f l x y z ax ay az nx ny nz;
+        above = above-is f x y z ax ay az nx ny nz;
       }
 
   -- a zero sum of terms that are not zero is +0
@@ -97,9 +97,11 @@ module _ (f : Format) (g : Fair f) (l x y z : ℕ) (ox : Ordinary f x) (oy : Ord
       let (ay, ny) = normal-is f g y (oy .least) in
       let (az, nz) = normal-is f g z (oz .least) in
       let t = fused-terms ax ay az nx ny nz in
+      let at = fused-place f x y z ax ay az nx ny nz l in
+      let c = zeroSign f ties-to-even x y z in
       total-answer f x y z (ox .most) (oy .most) (oz .most)
-      ∙ ap (λ b. answer f ties-to-even (zeroSign f ties-to-even x y z) (dyadic (withSign b (total f x y z)) (low f))) (sum-sign l t (productSign f x y) (minus f z) some)
-      ∙ sum-answer f ties-to-even l (low f) (fusedPlace f l x y z) two room t (fused-place f l x y z ax ay az nx ny nz) (against f x y z) (zeroSign f ties-to-even x y z) (fusedSign f l x y z) some
+      ∙ ap (λ b. answer f ties-to-even c (dyadic (withSign b (total f x y z)) (low f))) (sum-sign l t (productSign f x y) (minus f z) some)
+      ∙ sum-answer f ties-to-even l (low f) (fusedPlace f l x y z) two room t at (against f x y z) c (fusedSign f l x y z) some
 
 -- ---- the product alone
 joined-nothing : (u : Bool) (a : ℕ) → joined u a 0 ≡ a
@@ -110,6 +112,12 @@ module _ (f : Format) (g : Fair f) (x y z : ℕ) (ox : Ordinary f x) (oy : Ordin
   no-second : second f z ≡ 0
   no-second = omega (arith, times (2 ^ low f) (ap (units f) none ∙ units-zero f))
 
+  total-first : total f x y z ≡ first f x y
+  total-first = ap (joined (against f x y z) (first f x y)) no-second ∙ joined-nothing (against f x y z) (first f x y)
+
+  sign-product : totalSign f x y z ≡ productSign f x y
+  sign-product = sign-first (productSign f x y) (minus f z) (first f x y) (second f z) (omega (arith, no-second))
+
   -- a product that rounds to zero keeps its sign
   pub product-alone : fmaOf f x y z
       ≡ answer f ties-to-even (unlike (minus f x) (minus f y)) (scaled (unlike (minus f x) (minus f y)) (sigOf f x * sigOf f y) (placeOf f x +ℤ placeOf f y +ℤ pos (low f)))
@@ -118,13 +126,13 @@ module _ (f : Format) (g : Fair f) (x y z : ℕ) (ox : Ordinary f x) (oy : Ordin
       let (ay, ny) = normal-is f g y (oy .least) in
       let s = productSign f x y in
       let c = zeroSign f ties-to-even x y z in
-      let e : joined (against f x y z) (first f x y) (second f z) ≡ first f x y = ap (joined (against f x y z) (first f x y)) no-second ∙ joined-nothing (against f x y z) (first f x y) in
-      let h : joinedSign s (minus f z) (first f x y) (second f z) ≡ s = sign-first s (minus f z) (first f x y) (second f z) (omega (arith, no-second)) in
+      let k : ℕ = f .frac + f .frac in
+      let n : ℤ = placeOf f x +ℤ placeOf f y +ℤ pos (low f) in
       let some : 0 < first f x y = product-some f x y ox oy in
       total-answer f x y z (ox .most) (oy .most) (omega (arith, ox .most))
-      ∙ (λ i. answer f ties-to-even c (dyadic (withSign (h i) (e i)) (low f)))
-      ∙ finer-answer f ties-to-even c s (first f x y) (low f) (f .frac + f .frac) some
-      ∙ counted-answer f ties-to-even c s (first f x y * 2 ^ (f .frac + f .frac)) (sigOf f x * sigOf f y) (ax + ay) (low f + (f .frac + f .frac)) (placeOf f x +ℤ placeOf f y +ℤ pos (low f))
-      (omega (arith, times-le (2 ^ (f .frac + f .frac)) some, pow-pos (f .frac + f .frac)))
+      ∙ (λ i. answer f ties-to-even c (dyadic (withSign (sign-product i) (total-first i)) (low f)))
+      ∙ finer-answer f ties-to-even c s (first f x y) (low f) k some
+      ∙ counted-answer f ties-to-even c s (first f x y * 2 ^ k) (sigOf f x * sigOf f y) (ax + ay) (low f + k) n
+      (omega (arith, times-le (2 ^ k) some, pow-pos k))
       (omega (arith, addZ (placeOf f x +ℤ placeOf f y) (pos (low f)), product-place f x y ax ay nx ny))
       (product-counts f x y ax ay nx ny)

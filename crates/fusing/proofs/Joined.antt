@@ -1,11 +1,11 @@
--- The sum of two numbers U and W with signs, where U is p times 2 ^ A and W is q times 2 ^ B, both over 2 ^ c: its count of steps tells its sign, whether it is zero, and how it rounds. Assumes nothing.
-use Prim.Native.Nat.{ℕ, suc, _+_, _*_, _^_, _≤_, _<_}
-use mathlib.Core.Path.{_≡_, sym, ap, _∙_, subst}
+-- The sum of numbers U and W with signs, where U is p times 2 ^ A, and W is q times 2 ^ B, in steps of 2 ^ -c: its count tells its sign, and how it rounds. Assumes nothing.
+use Prim.Native.Nat.{ℕ, _+_, _*_, _^_, _≤_, _<_}
+use mathlib.Core.Path.{_≡_, sym, _∙_, subst}
 use mathlib.Core.Bool.{Bool}
 use native.Mathlib.Omega.{arith}
 use lib.Pow.{pow-add, pow-pos, pow-mono}
 use lib.IntN.{ℤ}
-use Rattle.algebra.proofs.Products.{times, mul-lt-cancel, mul-eq-cancel}
+use Rattle.algebra.proofs.Products.{mul-lt-cancel, mul-eq-cancel}
 use Rattle.algebra.proofs.Integers.{up, dn}
 use Rattle.ieee.specs.Format.{Format}
 use Rattle.ieee.specs.Pattern.{unlike, withSign}

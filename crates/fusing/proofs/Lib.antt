@@ -4,3 +4,4 @@ pub mod Forms
 pub mod Joined
 pub mod Places
 pub mod Fused
+pub mod Room

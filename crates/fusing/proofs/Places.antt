@@ -1,11 +1,11 @@
--- Where the terms of a fused sum stand, over whole numbers: the product at the exponent ax + ay, the third number at az + frac + low, both over 2 ^ (low + 2 frac + 1). Assumes nothing.
-use Prim.Native.Nat.{ℕ, suc, _+_, _-_, _*_, _%_, _^_, _≤_, _<_}
-use mathlib.Core.Path.{_≡_, sym, ap, _∙_}
+-- Where the terms of a fused sum stand, in steps of 2 ^ -(2 frac + 1): the product at the exponent ax + ay, the third number at az + frac + low. Assumes nothing.
+use Prim.Native.Nat.{ℕ, suc, _+_, _*_, _^_}
+use mathlib.Core.Path.{_≡_}
 use native.Mathlib.Nat.{two-pow-succ, mul-le-mul}
 use native.Mathlib.Omega.{arith}
-use lib.Pow.{pow-add, pow-pos}
-use lib.IntN.{ℤ, pos, _+ℤ_, _-ℤ_}
-use Rattle.algebra.proofs.Products.{times, times-le, cross}
+use lib.Pow.{pow-add}
+use lib.IntN.{ℤ, pos, _+ℤ_}
+use Rattle.algebra.proofs.Products.{times}
 use Rattle.algebra.proofs.Integers.{up, dn, addZ, subZ, eqZ-fact}
 use Rattle.ieee.specs.Format.{Format, low, units}
 use Rattle.ieee.specs.Pattern.{magnitude}
@@ -52,13 +52,12 @@ module _ (f : Format) (z az : ℕ) (nz : Normal f z az) where
         times (sigOf f z * 2 ^ az) (pow-add 2 (f .frac) (low f)),
       )
 
-module _ (f : Format) (l x y z ax ay az : ℕ) (nx : Normal f x ax) (ny : Normal f y ay) (nz : Normal f z az) where
+module _ (f : Format) (x y z ax ay az : ℕ) (nx : Normal f x ax) (ny : Normal f y ay) (nz : Normal f z az) where
   pub above-is : up (aboveBy f x y z) + (ax + ay) ≡ dn (aboveBy f x y z) + (az + (f .frac + low f))
-  above-is =
-      omega (arith, subZ (placeOf f z) (placeOf f x +ℤ placeOf f y), place-is f z az nz, product-place f x y ax ay nx ny)
+  above-is = omega (arith, subZ (placeOf f z) (placeOf f x +ℤ placeOf f y), place-is f z az nz, product-place f x y ax ay nx ny)
 
-  pub fused-place : up (fusedPlace f l x y z) + (low f + finer f) ≡ dn (fusedPlace f l x y z) + (ax + ay + downBy l (aboveBy f x y z))
-  fused-place =
+  pub fused-place : (l : ℕ) → up (fusedPlace f l x y z) + (low f + finer f) ≡ dn (fusedPlace f l x y z) + (ax + ay + downBy l (aboveBy f x y z))
+  fused-place l =
       let xy : ℤ = placeOf f x +ℤ placeOf f y in
       let k : ℕ = downBy l (aboveBy f x y z) in
       omega (arith, subZ (xy +ℤ pos (low f) +ℤ pos k) (pos 1), addZ (xy +ℤ pos (low f)) (pos k), addZ xy (pos (low f)), product-place f x y ax ay nx ny)
@@ -69,10 +68,7 @@ module _ (f : Format) (l x y z ax ay az : ℕ) (nx : Normal f x ax) (ny : Normal
         even-p = omega arith;
         even-q = omega arith;
         least-p = omega (arith, mul-le-mul (nx .least) (ny .least));
-        most-p = omega (arith, most);
+        most-p = omega (arith, mul-le-mul (nx .most) (ny .most));
         least-q = omega (arith, nz .least);
         most-q = omega (arith, nz .most);
       }
-    where
-      most : sigOf f x * sigOf f y < 2 * 2 ^ f .frac * (2 * 2 ^ f .frac)
-      most = omega (arith, mul-le-mul (nx .most) (ny .most))

@@ -1,13 +1,13 @@
 -- The sum of two numbers with signs, by their magnitudes, and its count of steps. Assumes nothing.
-use Prim.Native.Nat.{ℕ, zero, suc, _+_, _-_, _*_, _%_, _≤_, _<_}
+use Prim.Native.Nat.{ℕ, _+_, _-_, _*_, _%_, _≤_, _<_}
 use mathlib.Core.Path.{_≡_, refl, sym, ap, _∙_, subst}
 use mathlib.Core.Bool.{Bool, true, false, cond}
 use native.Mathlib.Omega.{arith}
 use borrow.Author.Tests.{lt-ltb, le-ltb}
 use lib.Dec.{ltb}
 use lib.IntN.{ℤ, pos, negℤ, _+ℤ_}
-use Rattle.algebra.proofs.Products.{order, times, times-le, diff, cross}
-use Rattle.algebra.proofs.Integers.{up, dn, addZ, negZ, eqZ}
+use Rattle.algebra.proofs.Products.{order, times, times-le, diff}
+use Rattle.algebra.proofs.Integers.{addZ, negZ, eqZ}
 use Rattle.ieee.specs.Pattern.{unlike, withSign}
 use Rattle.rounding.specs.Mark.{Marks}
 use Rattle.rounding.proofs.Marks.{marks-sum, marks-minus, marks-over}

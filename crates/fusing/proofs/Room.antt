@@ -1,0 +1,123 @@
+-- How large the counts and the exponents of a fused sum are: the sum has frac + 3 + l bits, which is 119 at 64 bits with l = 64, and 64 at 32 bits with l = 38. Assumes nothing.
+use Prim.Native.Nat.{ℕ, suc, _+_, _-_, _*_, _^_, _≤_, _<_, min}
+use mathlib.Core.Path.{_≡_, ap, _∙_}
+use mathlib.Core.Bool.{Bool, true, false}
+use native.Mathlib.Nat.{two-pow-succ, mul-le-mul}
+use native.Mathlib.Omega.{arith}
+use lib.Pow.{pow-add, pow-pos, pow-mono}
+use lib.IntN.{ℤ, pos, negsuc, _+ℤ_, _-ℤ_}
+use lib.Signed.{mag}
+use Rattle.algebra.proofs.Products.{times-le}
+use Rattle.algebra.proofs.Integers.{up, dn, addZ, subZ, oneZ, magZ}
+use Rattle.ieee.specs.Format.{Format, Fair, low}
+use Rattle.ieee.specs.Pattern.{minus, unlike}
+use Rattle.fields.specs.Width.{format, Fits}
+use Rattle.fields.proofs.Widths.{fields-small}
+use Rattle.sticky.proofs.Stuck.{stuck-le}
+use Rattle.significands.specs.Significand.{sigOf}
+use Rattle.significands.proofs.Significands.{normal-is}
+use Rattle.norms.specs.Norm.{placeOf}
+use Rattle.norms.proofs.Asides.{Ordinary}
+use Rattle.norms.proofs.Places.{place-bounds, unbias-small}
+use Rattle.fusing.specs.Aligned.{productAt, thirdAt, downBy, joined}
+use Rattle.fusing.specs.Fused.{productSig, thirdSig, aboveBy, productSteps, thirdSteps, fusedSteps, fusedPlace}
+
+-- ---- counts
+pub product-le : (l p : ℕ) (d : ℤ) → productAt l p d ≤ p
+unfolding productAt
+product-le l p (pos n) = stuck-le p (n - l)
+product-le l p (negsuc n) = omega arith
+
+pub third-le : (l q : ℕ) (d : ℤ) → thirdAt l q d ≤ q * 2 ^ l
+unfolding thirdAt
+third-le l q (pos n) = omega (arith, times-le q (pow-mono {i = min n l} {j = l} (omega arith)))
+third-le l q (negsuc n) = omega (arith, stuck-le q (suc n), times-le q (pow-pos l))
+
+pub joined-le : (u : Bool) (a b : ℕ) → joined u a b ≤ a + b
+joined-le false a b = omega arith
+joined-le true a b = omega arith
+
+module _ (f : Format) (g : Fair f) (x y : ℕ) (ox : Ordinary f x) (oy : Ordinary f y) where
+  -- a product of significands has 2 frac + 1 bits or one more
+  pub product-between : (2 ^ (f .frac + f .frac) ≤ sigOf f x * sigOf f y) × (sigOf f x * sigOf f y < 2 ^ (f .frac + f .frac + 2))
+  product-between =
+      let (ax, nx) = normal-is f g x (ox .least) in
+      let (ay, ny) = normal-is f g y (oy .least) in
+      omega (arith, mul-le-mul (nx .least) (ny .least), mul-le-mul (nx .most) (ny .most), pow-add 2 (f .frac + f .frac) 2, pow-add 2 (f .frac) (f .frac))
+
+  pub product-bits : productSig f x y < 2 ^ (f .frac + f .frac + 3)
+  product-bits = omega (arith, product-between, pow-add 2 (f .frac + f .frac) 2, pow-add 2 (f .frac + f .frac) 3)
+
+  -- and no more where it is brought to the third number's exponent
+  pub product-fits : (l : ℕ) (d : ℤ) → productAt l (productSig f x y) d < 2 ^ (f .frac + f .frac + 3)
+  product-fits l d = omega (arith, product-le l (productSig f x y) d, product-bits)
+
+module _ (f : Format) (g : Fair f) (z : ℕ) (oz : Ordinary f z) where
+  pub third-bits : thirdSig f z < 2 ^ (f .frac + 2)
+  third-bits = let (az, nz) = normal-is f g z (oz .least) in omega (arith, nz .most, pow-add 2 (f .frac) 2)
+
+  pub third-fits : (l : ℕ) (d : ℤ) → thirdAt l (thirdSig f z) d < 2 ^ (f .frac + 2 + l)
+  third-fits l d = omega (arith, third-le l (thirdSig f z) d, times-le (2 ^ l) third-bits, pow-add 2 (f .frac + 2) l, pow-pos l)
+
+-- the sum of both
+module _ (f : Format) (g : Fair f) (x y z : ℕ) (ox : Ordinary f x) (oy : Ordinary f y) (oz : Ordinary f z) (l : ℕ) (room : 2 + f .frac ≤ l) where
+  pub sum-fits : (d : ℤ) → productAt l (productSig f x y) d + thirdAt l (thirdSig f z) d < 2 ^ (f .frac + 3 + l)
+  sum-fits d =
+      let more : 2 ^ (f .frac + 3 + l) ≡ 2 ^ (f .frac + 2 + l) + 2 ^ (f .frac + 2 + l) = ap (λ k. 2 ^ k) (omega arith) ∙ two-pow-succ (f .frac + 2 + l) in
+      let below = pow-mono {i = f .frac + f .frac + 3} {j = f .frac + 2 + l} (omega arith) in
+      omega (arith, product-fits f g x y ox oy l d, third-fits f g z oz l d)
+
+  pub fused-fits : fusedSteps f l x y z < 2 ^ (f .frac + 3 + l)
+  fused-fits =
+      omega (arith, joined-le (unlike (unlike (minus f x) (minus f y)) (minus f z)) (productSteps f l x y z) (thirdSteps f l x y z), sum-fits (aboveBy f x y z))
+
+-- ---- exponents, in a format that fits in a word
+pub down-le : (l : ℕ) (d : ℤ) → downBy l d ≤ up d
+down-le l (pos n) = omega arith
+down-le l (negsuc n) = omega arith
+
+module _ {p e : ℕ} (w : Fits p e) where
+  place-small : (v : ℕ) → Ordinary (format p e) v → (up (placeOf (format p e) v) < 2 ^ 16) × (dn (placeOf (format p e) v) < 2 ^ 17)
+  place-small v o = omega (arith, place-bounds w v (o .least), fields-small w, unbias-small w, w .word)
+
+-- the product's, from the point and in smallest units
+module _ {p e : ℕ} (w : Fits p e) (x y : ℕ) (ox : Ordinary (format p e) x) (oy : Ordinary (format p e) y) where
+  product-bounds : (up (placeOf (format p e) x +ℤ placeOf (format p e) y) < 2 ^ 17) × (dn (placeOf (format p e) x +ℤ placeOf (format p e) y) < 2 ^ 18)
+  product-bounds =
+      let a = placeOf (format p e) x in
+      let b = placeOf (format p e) y in
+      omega (arith, addZ a b, oneZ (a +ℤ b), place-small w x ox, place-small w y oy)
+
+  pub product-small : mag (placeOf (format p e) x +ℤ placeOf (format p e) y) < 2 ^ 18
+  product-small = magZ (placeOf (format p e) x +ℤ placeOf (format p e) y) (2 ^ 18) (omega (arith, product-bounds)) (omega (arith, product-bounds))
+
+  pub alone-small : mag (placeOf (format p e) x +ℤ placeOf (format p e) y +ℤ pos (low (format p e))) < 2 ^ 20
+  alone-small =
+      let a = placeOf (format p e) x +ℤ placeOf (format p e) y in
+      let r : ℤ = a +ℤ pos (low (format p e)) in
+      let bounds : (up r < 2 ^ 20 + dn r) × (dn r ≤ 2 ^ 20 + up r) = omega (arith, addZ a (pos (low (format p e))), product-bounds, unbias-small w) in
+      magZ r (2 ^ 20) (bounds .0) (bounds .1)
+
+-- how far z stands above it, how far the product goes down, and the exponent of a step
+module _ {p e : ℕ} (w : Fits p e) (x y z : ℕ) (ox : Ordinary (format p e) x) (oy : Ordinary (format p e) y) (oz : Ordinary (format p e) z) where
+  above-bounds : (up (aboveBy (format p e) x y z) < 2 ^ 19) × (dn (aboveBy (format p e) x y z) < 2 ^ 18)
+  above-bounds =
+      let a = placeOf (format p e) x +ℤ placeOf (format p e) y in
+      let b = placeOf (format p e) z in
+      omega (arith, subZ b a, oneZ (b -ℤ a), product-bounds w x y ox oy, place-small w z oz)
+
+  pub above-small : mag (aboveBy (format p e) x y z) < 2 ^ 19
+  above-small = magZ (aboveBy (format p e) x y z) (2 ^ 19) (omega (arith, above-bounds)) (omega (arith, above-bounds))
+
+  pub down-small : (l : ℕ) → downBy l (aboveBy (format p e) x y z) < 2 ^ 19
+  down-small l = omega (arith, down-le l (aboveBy (format p e) x y z), above-bounds)
+
+  pub place-fits : (l : ℕ) → mag (fusedPlace (format p e) l x y z) < 2 ^ 20
+  place-fits l =
+      let a = placeOf (format p e) x +ℤ placeOf (format p e) y in
+      let b = a +ℤ pos (low (format p e)) in
+      let k = downBy l (aboveBy (format p e) x y z) in
+      let r : ℤ = b +ℤ pos k -ℤ pos 1 in
+      let bounds : (up r < 2 ^ 20 + dn r) × (dn r ≤ 2 ^ 20 + up r) =
+      omega (arith, subZ (b +ℤ pos k) (pos 1), addZ b (pos k), addZ a (pos (low (format p e))), product-bounds w x y ox oy, unbias-small w, down-small l) in
+      magZ r (2 ^ 20) (bounds .0) (bounds .1)
