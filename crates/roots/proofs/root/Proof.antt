@@ -1,0 +1,88 @@
+-- The invariant: the root of the pairs that were read, what its square leaves of them, and the rest of the word (Digits). Assumes nothing.
+use Prim.Native.Nat.{ℕ, suc, _+_, _*_, _/_, _%_, _^_, _≤_, _<_}
+use mathlib.Core.Path.{_≡_, ap, sym, subst, _∙_}
+use native.Mathlib.Omega.{arith}
+use borrow.Author.Needs.{needs}
+use lib.Dec.{eqb}
+use lib.Pow.{pow-mono}
+use Rattle.roots.specs.Floor.{FloorRoot, pairs}
+use Rattle.roots.proofs.Digits.{next-pair, next-rest, root-small, rem-small, none-left}
+use Rattle.roots.proofs.root.Statement.{statement}
+use Rattle.roots.proofs.root.Tie as tie
+
+abbrev Inv-loop : tie.InvT-loop
+Inv-loop m digits root₀ rem₀ rest₀ left₀ root rem rest left =
+    (k : ℕ) × (k + left ≡ digits) × (rest ≡ m * 2 ^ (2 * k) % 2 ^ 64) × FloorRoot (pairs m k) root × (rem + root * root ≡ pairs m k)
+
+abbrev μ-loop : tie.MeasureT-loop
+μ-loop m digits root₀ rem₀ rest₀ left₀ root rem rest left = left
+
+module _ (c : tie.At-loop Inv-loop μ-loop) where
+  abbrev word : ℕ
+  word = c .before .args .m
+
+  abbrev read : ℕ
+  read = c .loop .inv .0
+
+  root-below : c .loop .root < 2 ^ 60
+  root-below =
+      let (k, e, r, i, s) = c .loop .inv in
+      omega (arith, root-small word k (c .loop .root) (c .before .fits .m .fits) i, pow-mono {i = k} {j = 60} (omega arith))
+
+  rem-below : c .loop .rem ≤ 2 * c .loop .root
+  rem-below = rem-small (pairs word read) (c .loop .root) (c .loop .rem) (c .loop .inv .3) (c .loop .inv .4)
+
+  -- the number, with its next pair
+  next-number : 4 * (c .loop .root * c .loop .root) + (c .loop .rem * 4 + c .loop .rest / 2 ^ 62) ≡ pairs word (suc read)
+  next-number = omega (arith, next-pair word read (c .loop .rest) (c .loop .inv .2), c .loop .inv .4)
+
+returns : tie.Need-returns Inv-loop μ-loop
+returns c =
+    let l = c .before in
+    let (k, e, r, i, s) = l .loop .inv in
+    let d : k ≡ l .before .args .digits = omega arith in
+    subst (λ n. FloorRoot (pairs (word l) n) (l .loop .root) × (eqb (l .loop .rem) 0 ≡ eqb (l .loop .root * l .loop .root) (pairs (word l) n))) d (i, none-left (pairs (word l) k) (l .loop .root) (l .loop .rem) i s)
+
+digit-requires : tie.Need-digit-requires Inv-loop μ-loop
+digit-requires c κs = (root-below (c .before), omega (arith, rem-below (c .before)))
+
+loop-again : tie.Need-loop-again Inv-loop μ-loop
+loop-again c =
+    let l = c .before .before in
+    let (k, e, r, i, s) = l .loop .inv in (
+      suc k,
+      omega arith,
+      next-rest (word l) k (l .loop .rest) r,
+      subst (λ n. FloorRoot n (c .digit .result .root)) (next-number l) (c .digit .ensures .0),
+      c .digit .ensures .1 ∙ next-number l,
+    )
+
+loop-holds : tie.Need-loop-holds Inv-loop μ-loop
+loop-holds c = (0, omega arith, omega arith, record { low = omega arith; high = omega arith }, omega arith)
+
+mul-digit : tie.Need-mul-digit Inv-loop μ-loop
+mul-digit c = record { fits = omega (arith, rem-below (c .before), root-below (c .before)) }
+
+add-digit : tie.Need-add-digit Inv-loop μ-loop
+add-digit c = record { fits = omega (arith, rem-below (c .before), root-below (c .before)) }
+
+sub-left : tie.Need-sub-left Inv-loop μ-loop
+sub-left c = omega arith
+
+loop-less : tie.Need-loop-less Inv-loop μ-loop
+loop-less c = omega arith
+
+pub root-spec : {M : Type 1} → statement M
+root-spec =
+    tie.close
+    (tie.spec
+    Inv-loop
+    μ-loop
+    loop-holds
+    mul-digit
+    add-digit
+    digit-requires
+    sub-left
+    loop-less
+    loop-again
+    returns)
