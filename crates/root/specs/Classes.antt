@@ -1,0 +1,24 @@
+-- The classes of patterns that the root sets aside, one by one; the others are the normal numbers above zero. Assumes nothing.
+use Prim.Native.Nat.{ℕ}
+use mathlib.Core.Bool.{Bool, _&&_, _||_}
+use lib.Dec.{ltb, eqb}
+use Rattle.ieee.specs.Format.{Format, inf}
+use Rattle.ieee.specs.Pattern.{magnitude, field, fraction, minus}
+
+abbrev pub isZero : Format → ℕ → Bool
+isZero f x = eqb (magnitude f x) 0
+
+abbrev pub isSubnormal : Format → ℕ → Bool
+isSubnormal f x = eqb (field f x) 0 && ltb 0 (fraction f x)
+
+abbrev pub isInfinite : Format → ℕ → Bool
+isInfinite f x = eqb (magnitude f x) (inf f)
+
+abbrev pub isNan : Format → ℕ → Bool
+isNan f x = ltb (inf f) (magnitude f x)
+
+abbrev pub isNegative : Format → ℕ → Bool
+isNegative f x = minus f x
+
+unfoldable pub setAside : Format → ℕ → Bool
+setAside f x = isZero f x || isSubnormal f x || isInfinite f x || isNan f x || isNegative f x
