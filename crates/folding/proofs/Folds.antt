@@ -88,8 +88,8 @@ folded-answer {p} {e} f g t h l n a b =
     stuck-answer (format p e) g t (h * 2 ^ 64 + l) k n (omega arith) (omega arith)
 
 -- and its exponent stays in reach
-pub raised-small : (n : ℤ) (k : ℕ) → mag n ≤ 2 ^ 19 → k ≤ 64 → mag (n +ℤ pos k) ≤ 2 ^ 20
+pub raised-small : (n : ℤ) (k : ℕ) → mag n < 2 ^ 20 - 64 → k ≤ 64 → mag (n +ℤ pos k) ≤ 2 ^ 20
 raised-small n k p q =
     let a = addZ n (pos k) in
-    let m = magZ-fact n {h = 2 ^ 19 + 1} (omega arith) in
+    let m = magZ-fact n p in
     omega (arith, magZ (n +ℤ pos k) (2 ^ 20 + 1) (omega arith) (omega arith))

@@ -45,7 +45,7 @@ pub fn raised_by(exp: i32, k: u32) -> i32
 
 // w times 2^exp smallest units of a format, with a sign, rounded once.
 pub fn round_wide(frac: u32, expo: u32, neg: bool, w: Wide, exp: i32) -> u64
-    requires { ⌜ Fits frac expo × (mag exp ≤ 2 ^ 19) ⌝ }
+    requires { ⌜ Fits frac expo × (mag exp < 2 ^ 20 - 64) ⌝ }
     ensures { λ r. ⌜ r ≡ answer (format frac expo) ties-to-even neg (scaled neg (value w) exp) ⌝ }
 {
     if w.hi == 0 {

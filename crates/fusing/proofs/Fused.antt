@@ -1,13 +1,13 @@
 -- fma of numbers that are not zero is its count of steps, rounded once; and where the third number is zero, the product is. Assumes nothing.
 use Prim.Native.Nat.{ℕ, _+_, _*_, _^_, _≤_, _<_}
-use mathlib.Core.Path.{_≡_, ap, _∙_}
+use mathlib.Core.Path.{_≡_, sym, ap, _∙_}
 use mathlib.Core.Bool.{Bool, true, false}
 use native.Mathlib.Nat.{mul-le-mul}
 use native.Mathlib.Omega.{arith}
 use lib.Pow.{pow-pos}
-use lib.IntN.{ℤ, pos, _+ℤ_, _*ℤ_}
+use lib.IntN.{ℤ, pos, _+ℤ_, _-ℤ_, _*ℤ_}
 use Rattle.algebra.proofs.Products.{times, times-le}
-use Rattle.algebra.proofs.Integers.{addZ}
+use Rattle.algebra.proofs.Integers.{addZ, subZ, eqZ}
 use Rattle.ieee.specs.Format.{Format, Fair, low, inf, units}
 use Rattle.ieee.specs.Pattern.{minus, magnitude, unlike, withSign, value}
 use Rattle.ieee.specs.Exact.{dyadic}
@@ -18,6 +18,7 @@ use Rattle.ieee.proofs.Units.{units-zero, units-lt}
 use Rattle.ieee.proofs.Patterns.{value-is, kind-finite}
 use Rattle.ieee.proofs.Signs.{signed-times, signed-product, signed-zero}
 use Rattle.ieee.proofs.Fmas.{fma-answer, fma-rows, productSign, against}
+use Rattle.rounding.proofs.Scaled.{scaled-moves}
 use Rattle.significands.specs.Significand.{sigOf}
 use Rattle.significands.proofs.Significands.{Normal, normal-is}
 use Rattle.norms.specs.Norm.{placeOf}
@@ -136,3 +137,14 @@ module _ (f : Format) (g : Fair f) (x y z : ℕ) (ox : Ordinary f x) (oy : Ordin
       (omega (arith, times-le (2 ^ k) some, pow-pos k))
       (omega (arith, addZ (placeOf f x +ℤ placeOf f y) (pos (low f)), product-place f x y ax ay nx ny))
       (product-counts f x y ax ay nx ny)
+
+  -- the same of twice the product
+  pub product-twice : fmaOf f x y z
+      ≡ answer f ties-to-even (unlike (minus f x) (minus f y)) (scaled (unlike (minus f x) (minus f y)) (productSig f x y) (placeOf f x +ℤ placeOf f y +ℤ pos (low f) +ℤ pos 0 -ℤ pos 1))
+  product-twice =
+      let s = unlike (minus f x) (minus f y) in
+      let k = placeOf f x +ℤ placeOf f y +ℤ pos (low f) in
+      let e : productSig f x y ≡ sigOf f x * sigOf f y * 2 ^ 1 = omega arith in
+      let n : k +ℤ pos 0 -ℤ pos 1 +ℤ pos 1 ≡ k = eqZ (k +ℤ pos 0 -ℤ pos 1 +ℤ pos 1) k (omega (arith, addZ (k +ℤ pos 0 -ℤ pos 1) (pos 1), subZ (k +ℤ pos 0) (pos 1), addZ k (pos 0))) in
+      product-alone
+      ∙ sym (ap (λ m. answer f ties-to-even s (scaled s m (k +ℤ pos 0 -ℤ pos 1))) e ∙ scaled-moves f ties-to-even s (sigOf f x * sigOf f y) 1 (k +ℤ pos 0 -ℤ pos 1) ∙ ap (λ m. answer f ties-to-even s (scaled s (sigOf f x * sigOf f y) m)) n)

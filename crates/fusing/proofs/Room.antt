@@ -23,6 +23,9 @@ use Rattle.fusing.specs.Aligned.{productAt, thirdAt, downBy, joined}
 use Rattle.fusing.specs.Fused.{productSig, thirdSig, aboveBy, productSteps, thirdSteps, fusedSteps, fusedPlace}
 
 -- ---- counts
+pub below-pow : {n i j : ℕ} → i ≤ j → n < 2 ^ i → n < 2 ^ j
+below-pow l h = omega (arith, pow-mono l)
+
 pub product-le : (l p : ℕ) (d : ℤ) → productAt l p d ≤ p
 unfolding productAt
 product-le l p (pos n) = stuck-le p (n - l)
@@ -36,6 +39,9 @@ third-le l q (negsuc n) = omega (arith, stuck-le q (suc n), times-le q (pow-pos 
 pub joined-le : (u : Bool) (a b : ℕ) → joined u a b ≤ a + b
 joined-le false a b = omega arith
 joined-le true a b = omega arith
+
+pub sig-most : (f : Format) (g : Fair f) (v : ℕ) → Ordinary f v → sigOf f v < 2 * 2 ^ f .frac
+sig-most f g v o = let (at, n) = normal-is f g v (o .least) in n .most
 
 module _ (f : Format) (g : Fair f) (x y : ℕ) (ox : Ordinary f x) (oy : Ordinary f y) where
   -- a product of significands has 2 frac + 1 bits or one more
@@ -80,6 +86,9 @@ module _ {p e : ℕ} (w : Fits p e) where
   place-small : (v : ℕ) → Ordinary (format p e) v → (up (placeOf (format p e) v) < 2 ^ 16) × (dn (placeOf (format p e) v) < 2 ^ 17)
   place-small v o = omega (arith, place-bounds w v (o .least), fields-small w, unbias-small w, w .word)
 
+  pub place-mag : (v : ℕ) → Ordinary (format p e) v → mag (placeOf (format p e) v) < 2 ^ 18
+  place-mag v o = magZ (placeOf (format p e) v) (2 ^ 18) (omega (arith, place-small v o)) (omega (arith, place-small v o))
+
 -- the product's, from the point and in smallest units
 module _ {p e : ℕ} (w : Fits p e) (x y : ℕ) (ox : Ordinary (format p e) x) (oy : Ordinary (format p e) y) where
   product-bounds : (up (placeOf (format p e) x +ℤ placeOf (format p e) y) < 2 ^ 17) × (dn (placeOf (format p e) x +ℤ placeOf (format p e) y) < 2 ^ 18)
@@ -91,12 +100,14 @@ module _ {p e : ℕ} (w : Fits p e) (x y : ℕ) (ox : Ordinary (format p e) x) (
   pub product-small : mag (placeOf (format p e) x +ℤ placeOf (format p e) y) < 2 ^ 18
   product-small = magZ (placeOf (format p e) x +ℤ placeOf (format p e) y) (2 ^ 18) (omega (arith, product-bounds)) (omega (arith, product-bounds))
 
-  pub alone-small : mag (placeOf (format p e) x +ℤ placeOf (format p e) y +ℤ pos (low (format p e))) < 2 ^ 20
+  pub alone-small : mag (placeOf (format p e) x +ℤ placeOf (format p e) y +ℤ pos (low (format p e)) +ℤ pos 0 -ℤ pos 1) < 2 ^ 20 - 64
   alone-small =
       let a = placeOf (format p e) x +ℤ placeOf (format p e) y in
-      let r : ℤ = a +ℤ pos (low (format p e)) in
-      let bounds : (up r < 2 ^ 20 + dn r) × (dn r ≤ 2 ^ 20 + up r) = omega (arith, addZ a (pos (low (format p e))), product-bounds, unbias-small w) in
-      magZ r (2 ^ 20) (bounds .0) (bounds .1)
+      let b = a +ℤ pos (low (format p e)) in
+      let r : ℤ = b +ℤ pos 0 -ℤ pos 1 in
+      let bounds : (up r < 2 ^ 20 - 64 + dn r) × (dn r ≤ 2 ^ 20 - 64 + up r) =
+      omega (arith, subZ (b +ℤ pos 0) (pos 1), addZ b (pos 0), addZ a (pos (low (format p e))), product-bounds, unbias-small w) in
+      magZ r (2 ^ 20 - 64) (bounds .0) (bounds .1)
 
 -- how far z stands above it, how far the product goes down, and the exponent of a step
 module _ {p e : ℕ} (w : Fits p e) (x y z : ℕ) (ox : Ordinary (format p e) x) (oy : Ordinary (format p e) y) (oz : Ordinary (format p e) z) where
@@ -112,12 +123,12 @@ module _ {p e : ℕ} (w : Fits p e) (x y z : ℕ) (ox : Ordinary (format p e) x)
   pub down-small : (l : ℕ) → downBy l (aboveBy (format p e) x y z) < 2 ^ 19
   down-small l = omega (arith, down-le l (aboveBy (format p e) x y z), above-bounds)
 
-  pub place-fits : (l : ℕ) → mag (fusedPlace (format p e) l x y z) < 2 ^ 20
+  pub place-fits : (l : ℕ) → mag (fusedPlace (format p e) l x y z) < 2 ^ 20 - 64
   place-fits l =
       let a = placeOf (format p e) x +ℤ placeOf (format p e) y in
       let b = a +ℤ pos (low (format p e)) in
       let k = downBy l (aboveBy (format p e) x y z) in
       let r : ℤ = b +ℤ pos k -ℤ pos 1 in
-      let bounds : (up r < 2 ^ 20 + dn r) × (dn r ≤ 2 ^ 20 + up r) =
+      let bounds : (up r < 2 ^ 20 - 64 + dn r) × (dn r ≤ 2 ^ 20 - 64 + up r) =
       omega (arith, subZ (b +ℤ pos k) (pos 1), addZ b (pos k), addZ a (pos (low (format p e))), product-bounds w x y ox oy, unbias-small w, down-small l) in
-      magZ r (2 ^ 20) (bounds .0) (bounds .1)
+      magZ r (2 ^ 20 - 64) (bounds .0) (bounds .1)

@@ -1,6 +1,7 @@
 // The sum of two magnitudes with signs, and its sign: of two words, and of one.
 ghost use mathlib.Core.Path.{_≡_};
 ghost use Prim.Native.Nat.{_+_, _<_, _^_};
+ghost use lib.Dec.{eqb};
 ghost use Rattle.ieee.specs.Pattern.{unlike};
 ghost use Rattle.words.specs.Value.{value};
 ghost use Rattle.fusing.specs.Aligned.{joined, joinedSign};
@@ -53,4 +54,14 @@ pub fn join32(a: u64, b: u64, s: bool, t: bool) -> Joined32
         return Joined32 { sum: b - a, neg: t };
     }
     Joined32 { sum: a - b, neg: s }
+}
+
+// Whether nothing is left.
+pub fn nothing(w: Wide) -> bool
+    ensures { λ r. ⌜ r ≡ eqb (value w) 0 ⌝ }
+{
+    if w.hi == 0 {
+        return w.lo == 0;
+    }
+    false
 }

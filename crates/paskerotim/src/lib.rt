@@ -1,11 +1,13 @@
 // The face: the operations, re-exported, and the same as plain C functions on whole numbers.
 ghost use mathlib.Core.Path.{_≡_};
 ghost use Rattle.ieee.specs.Format.{b64, b32};
+ghost use Rattle.ieee.specs.Fma.{fmaOf};
 ghost use Rattle.ieee.specs.Fmod.{fmodOf};
 ghost use Rattle.ieee.specs.Reduction.{reduceOf};
 ghost use Rattle.ieee.specs.Refusal.{numberOf, valueOf};
 ghost use Rattle.ieee.specs.Remquo.{remquoOf, quotientOf};
 ghost use Rattle.ieee.specs.Scalbn.{scalbnOf};
+ghost use Rattle.ieee.specs.Sqrt.{sqrtOf, sqrtStatus};
 ghost use Rattle.ieee.specs.Whole.{truncOf, truncStatus, floorOf, floorStatus};
 pub use env::FpResult32;
 pub use env::FpResult64;
@@ -13,6 +15,8 @@ pub use floor::floor32;
 pub use floor::floor32_status;
 pub use floor::floor64;
 pub use floor::floor64_status;
+pub use fma::fma32;
+pub use fma::fma64;
 pub use fmod::fmod32;
 pub use fmod::fmod64;
 pub use reduction::Reduced32;
@@ -23,6 +27,10 @@ pub use refusals::at32::refusal32;
 pub use refusals::at64::refusal64;
 pub use remquo::answer::Remquo64;
 pub use remquo::remquo64;
+pub use root::sqrt::sqrt32;
+pub use root::sqrt::sqrt32_status;
+pub use root::sqrt::sqrt64;
+pub use root::sqrt::sqrt64_status;
 pub use scale::scalbn::scalbn32;
 pub use scale::scalbn::scalbn64;
 pub use trunc::trunc32;
@@ -157,4 +165,46 @@ pub extern "C" fn pk_reduce32_refusal(x: u32, e: u32, y: u32) -> u32
     ensures { λ r. ⌜ r ≡ numberOf (reduceOf 32 x e y) ⌝ }
 {
     refusal32(x, e, y)
+}
+
+#[no_mangle]
+pub extern "C" fn pk_sqrt64(x: u64) -> u64
+    ensures { λ r. ⌜ r ≡ sqrtOf b64 x ⌝ }
+{
+    sqrt64(x)
+}
+
+#[no_mangle]
+pub extern "C" fn pk_sqrt64_status(x: u64) -> u32
+    ensures { λ r. ⌜ r ≡ sqrtStatus b64 x ⌝ }
+{
+    sqrt64_status(x).status
+}
+
+#[no_mangle]
+pub extern "C" fn pk_sqrt32(x: u32) -> u32
+    ensures { λ r. ⌜ r ≡ sqrtOf b32 x ⌝ }
+{
+    sqrt32(x)
+}
+
+#[no_mangle]
+pub extern "C" fn pk_sqrt32_status(x: u32) -> u32
+    ensures { λ r. ⌜ r ≡ sqrtStatus b32 x ⌝ }
+{
+    sqrt32_status(x).status
+}
+
+#[no_mangle]
+pub extern "C" fn pk_fma64(x: u64, y: u64, z: u64) -> u64
+    ensures { λ r. ⌜ r ≡ fmaOf b64 x y z ⌝ }
+{
+    fma64(x, y, z)
+}
+
+#[no_mangle]
+pub extern "C" fn pk_fma32(x: u32, y: u32, z: u32) -> u32
+    ensures { λ r. ⌜ r ≡ fmaOf b32 x y z ⌝ }
+{
+    fma32(x, y, z)
 }

@@ -1,23 +1,22 @@
 -- The rows of fma, by magnitudes. Assumes nothing.
-use Prim.Native.Nat.{ℕ, zero, suc, _+_, _-_, _*_, _^_, _≤_, _<_}
+use Prim.Native.Nat.{ℕ, zero, suc, _*_, _≤_, _<_}
 use mathlib.Core.Path.{_≡_, refl, sym, ap, _∙_}
 use mathlib.Core.Logic.{_⊎_, inl, inr, ⊎-elim}
-use mathlib.Core.Bool.{Bool, true, false, true≢false}
+use mathlib.Core.Bool.{Bool, true, false, true≢false, cond}
 use native.Mathlib.Omega.{arith}
-use lib.Pow.{pow-mono, pow-pos}
-use native.Mathlib.Nat.{two-pow-succ}
 use Rattle.algebra.proofs.Products.{order, times}
 use Rattle.ieee.specs.Format.{Format, inf, units, canonical}
 use Rattle.ieee.specs.Pattern.{Pattern, magnitude, minus, signed, unlike, Kind, nan, infinite, finite, kind}
 use Rattle.ieee.specs.Round.{ties-to-even}
-use Rattle.ieee.specs.Fma.{fmaIn, fmaOf}
+use Rattle.ieee.specs.Fma.{times as times-kinds, sumOf, zeroSum, plusBy, fmaIn, fmaOf}
 use Rattle.ieee.proofs.Units.{units-zero, units-lt}
-use Rattle.ieee.proofs.Patterns.{kind-nan, kind-infinite, kind-finite, signed-is}
+use Rattle.ieee.proofs.Patterns.{inf-below-top, pattern-signed, kind-nan, kind-infinite, kind-finite, signed-is}
+use Rattle.ieee.proofs.Attributes.{answer-pattern}
 use Rattle.ieee.proofs.Fmas.{InfiniteProduct, of-both, of-first, of-second, productSign, against, FmaRows, fma-rows}
 use Rattle.fields.specs.Width.{format, Fits}
 use Rattle.norms.proofs.Asides.{set-aside}
 use Rattle.rows.specs.Special.{Special}
-use Rattle.sorting.proofs.Sorts.{infinity-top}
+use Rattle.sorting.proofs.Sorts.{canonical-pattern}
 
 -- ---- kinds, by magnitudes
 zero-kind : (f : Format) (x : ℕ) → 0 < inf f → magnitude f x ≡ 0 → kind f x ≡ finite 0
@@ -129,3 +128,25 @@ module _ (f : Format) (x y z : ℕ) where
   then-zero s l h k =
       ⊎-elim (λ e. set-aside f x e (λ q. inl q) (λ q. absurd (omega arith)))
       (λ r. ⊎-elim (λ e. set-aside f y e (λ q. inr q) (λ q. absurd (omega arith))) (λ q. absurd (omega arith)) r) s
+
+-- ---- every answer is a pattern
+module _ {p e : ℕ} (w : Fits p e) where
+  plain-infinity : (s : Bool) → Pattern (format p e) (signed (format p e) s (inf (format p e)))
+  plain-infinity s = pattern-signed (format p e) s (inf (format p e)) (inf-below-top (format p e))
+
+  plus-pattern : (s : Bool) (k : Kind) (t : Bool) (l : Kind) → Pattern (format p e) (plusBy (format p e) ties-to-even s k t l)
+  unfolding plusBy
+  plus-pattern s nan t l = canonical-pattern w
+  plus-pattern s infinite t nan = canonical-pattern w
+  plus-pattern false infinite false infinite = plain-infinity false
+  plus-pattern false infinite true infinite = canonical-pattern w
+  plus-pattern true infinite false infinite = canonical-pattern w
+  plus-pattern true infinite true infinite = plain-infinity true
+  plus-pattern s infinite t (finite v) = plain-infinity s
+  plus-pattern s (finite u) t nan = canonical-pattern w
+  plus-pattern s (finite u) t infinite = plain-infinity t
+  plus-pattern s (finite u) t (finite v) = answer-pattern (format p e) (w .fair) ties-to-even (cond (unlike s t) (zeroSum ties-to-even) s) (sumOf (format p e) s u t v)
+
+  pub fma-pattern : (x y z : ℕ) → Pattern (format p e) (fmaOf (format p e) x y z)
+  unfolding fmaOf fmaIn
+  fma-pattern x y z = plus-pattern (productSign (format p e) x y) (times-kinds (kind (format p e) x) (kind (format p e) y)) (minus (format p e) z) (kind (format p e) z)

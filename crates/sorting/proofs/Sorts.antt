@@ -7,8 +7,8 @@ use lib.Dec.{leb}
 use lib.Pow.{pow-add, pow-pos, pow-mono}
 use borrow.Author.Tests.{le-leb, lt-leb}
 use Rattle.algebra.proofs.Products.{order, diff, times-le}
-use Rattle.ieee.specs.Format.{Format, top, inf, units}
-use Rattle.ieee.specs.Pattern.{magnitude, Kind, nan, infinite, finite, kind}
+use Rattle.ieee.specs.Format.{Format, top, inf, units, canonical}
+use Rattle.ieee.specs.Pattern.{Pattern, magnitude, Kind, nan, infinite, finite, kind}
 use Rattle.ieee.specs.Fmod.{divide}
 use Rattle.ieee.proofs.Units.{units-zero, units-lt}
 use Rattle.ieee.proofs.Remainders.{divide-by-nan, divide-by-zero}
@@ -78,6 +78,9 @@ module _ {p e : ℕ} (w : Fits p e) where
       let four = pow-mono {i = 2} {j = e} (w .fair .expo-two) in
       let l : 1 ≤ 2 ^ e - 1 = omega arith in
       omega (arith, times-le (2 ^ p) l, pow-pos p)
+
+  pub canonical-pattern : Pattern (format p e) (canonical (format p e))
+  canonical-pattern = omega (arith, infinity-top, pow-mono {i = p - 1} {j = p} (omega arith), pow-pos p)
 
   pub top-room : 2 ^ (p + e) < 2 ^ 64
   top-room = omega (arith, pow-mono {i = p + e} {j = 63} (w .word))
