@@ -56,7 +56,7 @@ module _ {P Q n a b : ℕ} where
   level-ge (second-whole e h m) l = omega (arith, le-marked m b h l)
 
 -- ---- where anything was lost, the sum has two bits more than the format keeps: h is 2 ^ frac
-pub far-apart : (u : Bool) (a b h : ℕ) → (a + 4 * h ≤ b → 4 * h ≤ joined u a b) × (b + 4 * h ≤ a → 4 * h ≤ joined u a b)
+far-apart : (u : Bool) (a b h : ℕ) → (a + 4 * h ≤ b → 4 * h ≤ joined u a b) × (b + 4 * h ≤ a → 4 * h ≤ joined u a b)
 far-apart false a b h = (λ l. omega arith, λ l. omega arith)
 far-apart true a b h = (λ l. omega arith, λ l. omega arith)
 

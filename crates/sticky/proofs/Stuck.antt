@@ -3,10 +3,10 @@ use Prim.Native.Nat.{ℕ, zero, suc, _+_, _*_, _/_, _%_, _^_, _≤_, _<_}
 use mathlib.Core.Path.{_≡_, sym, ap, _∙_}
 use mathlib.Core.Bool.{Bool, cond}
 use native.Mathlib.Nat.{two-pow-succ}
-use native.Mathlib.Omega.{arith, by-contra}
+use native.Mathlib.Omega.{arith}
 use borrow.Author.Tests.{ne-eqb}
 use lib.Dec.{eqb}
-use lib.Pow.{pow-pos, pow-add, shr-lt}
+use lib.Pow.{pow-pos, pow-add}
 use lib.IntN.{ℤ, pos, negsuc, _+ℤ_}
 use Rattle.algebra.proofs.Products.{order, times-le}
 use Rattle.algebra.proofs.Integers.{addZ}
@@ -60,16 +60,3 @@ stuck-half v (suc k) p =
     let two : 2 ≤ 2 ^ suc k = omega (arith, two-pow-succ k, pow-pos k) in
     let m : v / 2 ^ suc k * 2 ≤ v / 2 ^ suc k * 2 ^ suc k = omega (arith, times-le (v / 2 ^ suc k) two) in
     order 1 (v % 2 ^ suc k) (λ h. omega (arith, stuck-lost v (suc k) h)) (λ h. omega (arith, stuck-exact v (suc k) (omega arith)))
-
--- a number of j + k bits keeps j of them
-pub stuck-least : (v k j : ℕ) → 2 ^ (j + k) ≤ v → 2 ^ j ≤ stuck v k
-stuck-least v k j h =
-    let (e, l) = div-mod v (2 ^ k) (pow-pos k) in
-    let t : 2 ^ j ≤ v / 2 ^ k = by-contra (2 ^ j) (v / 2 ^ k) (λ b. omega (arith, times-le (2 ^ k) b, pow-add 2 j k)) in
-    order 1 (v % 2 ^ k) (λ r. omega (arith, stuck-lost v k r)) (λ r. omega (arith, stuck-exact v k (omega arith)))
-
-pub stuck-most : (v k j : ℕ) → 0 < j → v < 2 ^ (j + k) → stuck v k < 2 ^ j
-stuck-most v k zero p h = absurd (omega arith)
-stuck-most v k (suc j) p h =
-    let t : v / 2 ^ k < 2 ^ suc j = shr-lt (suc j) k h in
-    order 1 (v % 2 ^ k) (λ r. omega (arith, stuck-lost v k r, two-pow-succ j)) (λ r. omega (arith, stuck-exact v k (omega arith)))
