@@ -20,8 +20,8 @@ pub struct Fold {
     pub down: u32,
 }
 
-// Two words, of which the high one is not 0, folded into one that has its top bit set: moved up by the zeros before it, the high word takes what passes the low one,
-// and what stays in the low one is lost.
+// Two words, of which the high one is not 0, folded into one that has its top bit set. Moved up by the zeros before it, the high word takes what
+// passes the low one, and what stays in the low one is lost.
 pub fn folded(w: Wide) -> Fold
     requires { ⌜ 0 < w .hi ⌝ }
     ensures { λ r. ⌜ (r .sig ≡ stuck (value w) (64 - leadingZeros 64 (w .hi))) × (r .down ≡ 64 - leadingZeros 64 (w .hi)) ⌝ }

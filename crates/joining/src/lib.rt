@@ -26,21 +26,15 @@ pub fn join64(a: Wide, b: Wide, s: bool, t: bool) -> Joined64
     ensures { λ r. ⌜ (value (r .sum) ≡ joined (unlike s t) (value a) (value b)) × (r .neg ≡ joinedSign s t (value a) (value b)) ⌝ }
 {
     if s == t {
-        return Joined64 {
-            sum: add(a, b),
-            neg: s,
-        };
+        let sum = add(a, b);
+        return Joined64 { sum, neg: s };
     }
     if less(a, b) {
-        return Joined64 {
-            sum: sub(b, a),
-            neg: t,
-        };
+        let sum = sub(b, a);
+        return Joined64 { sum, neg: t };
     }
-    Joined64 {
-        sum: sub(a, b),
-        neg: s,
-    }
+    let sum = sub(a, b);
+    Joined64 { sum, neg: s }
 }
 
 pub fn join32(a: u64, b: u64, s: bool, t: bool) -> Joined32
@@ -48,12 +42,15 @@ pub fn join32(a: u64, b: u64, s: bool, t: bool) -> Joined32
     ensures { λ r. ⌜ (r .sum ≡ joined (unlike s t) a b) × (r .neg ≡ joinedSign s t a b) ⌝ }
 {
     if s == t {
-        return Joined32 { sum: a + b, neg: s };
+        let sum = a + b;
+        return Joined32 { sum, neg: s };
     }
     if a < b {
-        return Joined32 { sum: b - a, neg: t };
+        let sum = b - a;
+        return Joined32 { sum, neg: t };
     }
-    Joined32 { sum: a - b, neg: s }
+    let sum = a - b;
+    Joined32 { sum, neg: s }
 }
 
 // Whether nothing is left.

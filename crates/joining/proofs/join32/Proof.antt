@@ -14,11 +14,11 @@ returns-2 c = let s = c .before .before .args in joins-less (s .s) (s .t) (s .a)
 returns-3 : tie.Need-returns-3
 returns-3 c = let s = c .before .before .args in joins-no-less (s .s) (s .t) (s .a) (s .b) _ (c .before .if1 .left) (c .if2 .left) refl
 
-add-t6 : tie.Need-add-t6
-add-t6 c = search needs
+add-sum : tie.Need-add-sum
+add-sum c = search needs
 
-sub-t7 : tie.Need-sub-t7
-sub-t7 c = search needs
+sub-sum : tie.Need-sub-sum
+sub-sum c = search needs
 
 pub join32-spec : {M : Type 1} → statement M
-join32-spec = tie.close (tie.spec add-t6 returns sub-t7 returns-2 returns-3)
+join32-spec = tie.close (tie.spec add-sum returns sub-sum returns-2 returns-3)
