@@ -56,7 +56,8 @@ fn status_of(frac: u32, expo: u32, x: u64) -> u32
     ensures { λ r. ⌜ r ≡ sqrtStatus (format frac expo) x ⌝ }
 {
     let top = pow(frac + expo);
-    if x <= top - pow(frac) {
+    let inf = top - pow(frac);
+    if x <= inf {
         return env::OK;
     }
     if x == top {

@@ -43,8 +43,8 @@ pow-requires c κs = search needs
 pow-requires-2 : tie.Need-pow-requires-2
 pow-requires-2 c κs = search needs
 
-sub-if1 : tie.Need-sub-if1
-sub-if1 c = omega (arith, c .before .pow .ensures, c .pow2 .ensures, infinity-top (s c .pre .0))
+sub-inf : tie.Need-sub-inf
+sub-inf c = omega (arith, c .before .pow .ensures, c .pow2 .ensures, infinity-top (s c .pre .0))
 
 pub status-of-spec : {M : Type 1} → statement M
-status-of-spec = tie.close (tie.spec add-pow pow-requires pow-requires-2 sub-if1 returns returns-2 returns-3)
+status-of-spec = tie.close (tie.spec add-pow pow-requires pow-requires-2 sub-inf returns returns-2 returns-3)
