@@ -20,7 +20,7 @@ module _ (c : tie.Start) where
   half-fits = let d = subZ (pos (c .args .up / 2)) (pos 4) in sfitsZ w32 (halfOf (c .args .up)) (omega arith) (omega arith)
 
 returns : tie.Need-returns
-returns c = simp (toZ-ofZ, half-pos c, half-fits c)
+returns c = simp (half-pos c) (toZ-ofZ (half-fits c))
 
 cast-result : tie.Need-cast-result
 cast-result c = search needs

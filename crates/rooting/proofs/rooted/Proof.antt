@@ -90,16 +90,29 @@ module _ (c : tie.After-root) where
 half-fits : (c : tie.After-half) → SFits w32 (c .half .result)
 half-fits c = record { sfits = c .half .ok }
 
+-- what the rounding step gives, of the marked root
+module _ (c : tie.After-round) where
+  abbrev halved : tie.After-half
+  halved = c .before
+
+  abbrev found : tie.After-root
+  found = halved .before .before
+
+  abbrev of : ℕ → ℤ → ℕ
+  of u n = answer (fmt (s found)) ties-to-even false (scaled false u n)
+
+  rounds : c .round .result ≡ of (halved .before .marked .result) (halved .half .result)
+  rounds = simp (toZ-ofZ, half-fits halved) at (c .round .ensures)
+
+  rounds-marked : c .round .result ≡ of (markedBy (found .root .result .root) (found .root .result .exact)) (halfOf (lifts found))
+  rounds-marked = rounds ∙ ap₂ of (halved .before .marked .ensures) (halved .half .ensures)
+
 returns : tie.Need-returns
 returns c =
-    let h = c .before in
-    let m = h .before in
-    let r = m .before in
+    let r = found c in
     let t = s r in
-    let f = fmt t in
-    (simp (toZ-ofZ, half-fits h) at (c .round .ensures))
-    ∙ ap₂ (λ u n. answer f ties-to-even false (scaled false u n)) (m .marked .ensures) (h .half .ensures)
-    ∙ sym (root-answer f (t .pre .0 .fair) (t .args .x) (t .pre .1) (lifts r) (lifts-is r) (t .pre .2) (t .pre .3) (r .root .result .root) (r .root .result .exact) (root-is r) (exact-is r))
+    rounds-marked c
+    ∙ sym (root-answer (fmt t) (t .pre .0 .fair) (t .args .x) (t .pre .1) (lifts r) (lifts-is r) (t .pre .2) (t .pre .3) (r .root .result .root) (r .root .result .exact) (root-is r) (exact-is r))
 
 norm-of-requires : tie.Need-norm-of-requires
 norm-of-requires c κs = search needs
