@@ -1,7 +1,6 @@
 # What tools/oracle fetches from Debian, checked by SHA-256 and unpacked into the store. Sourced.
 
 fetch() { # USE FOLDER: every package of the use, unpacked into the folder
-    pool=${PASKEROTIM_POOL:-http://deb.debian.org/debian-security/pool/updates/main}
     work=$store/fetch.$$
     mkdir -p "$work/out"
     trap 'rm -rf "$work"' EXIT
@@ -10,6 +9,11 @@ fetch() { # USE FOLDER: every package of the use, unpacked into the folder
         [ "$use" = "$1" ] || continue
         [ "$for" = any ] || [ "$for" = "$machine" ] || continue
         say "fetching ${path##*/} ($((bytes / 1000000)) MB)"
+        case $path in
+        main:*) pool=debian/pool/main ;;
+        *) pool=debian-security/pool/updates/main ;;
+        esac
+        pool=${PASKEROTIM_POOL:-http://deb.debian.org/$pool} path=${path#main:}
         download "$pool/$path" "$work/package" || fail 3 "cannot fetch $pool/$path"
         [ "$(sha256sum "$work/package" | cut -d ' ' -f 1)" = "$sum" ] || fail 3 "$path is not the package that was named"
         unpack "$work/package" "$work/out" "$1" || fail 2 "cannot unpack $path"
@@ -31,19 +35,27 @@ download() { # URL FILE
     fi
 }
 
-unpack() { # PACKAGE FOLDER USE: of the text only the crate's own tree
-    if [ "$3" = text ]; then only=./$libm; else only=; fi
+unpack() { # PACKAGE FOLDER USE: of the text only the crate's own tree, of the vectors the archive that holds them
+    case $3 in text) only=./$libm ;; vectors) only=./$glibc ;; *) only= ;; esac
     if command -v dpkg-deb >/dev/null 2>&1; then
         dpkg-deb --fsys-tarfile "$1"
     else
         ar p "$1" data.tar.xz | xz -dc
-    fi | tar -xf - -C "$2" $only
+    fi | tar -xf - -C "$2" $only || return
+    [ "$3" != vectors ] || (cd "$2" && xz -dc "$glibc" | tar -xf - $vectors && rm "$glibc")
 }
 
 libm=usr/src/rustc-1.96.0/library/compiler-builtins/libm
 fetch_text() {
     text=$store/text/$libm/src
     [ -d "$text" ] || fetch text "$store/text"
+}
+
+glibc=usr/src/glibc/glibc-2.36.tar.xz
+math=glibc-2.36/math
+vectors="$math/auto-libm-test-out-sqrt $math/auto-libm-test-out-fma $math/libm-test-sqrt.inc $math/libm-test-fma.inc $math/libm-test-scalbn.inc"
+fetch_vectors() {
+    [ -d "$store/vectors/$math" ] || fetch vectors "$store/vectors"
 }
 
 fetch_x86_rust() {
