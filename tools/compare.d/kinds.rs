@@ -1,8 +1,10 @@
 //! The differences from the crate that are known: which operands, and the entry of docs/DIFFERENCES.md that explains them.
 
 use crate::answers::judge;
+use crate::known::{is_lost, is_rounded_twice};
 use crate::operations::Operation;
 use crate::request::{Answer, Request};
+use std::collections::BTreeMap;
 
 pub struct Kind {
     /// The entry's name in docs/DIFFERENCES.md.
@@ -13,20 +15,38 @@ pub struct Kind {
     pub holds: fn(&Request) -> bool,
 }
 
-/// None is known for the operations that are run.
-pub static KINDS: [Kind; 0] = [];
+pub static KINDS: [Kind; 2] = [
+    Kind { entry: "fma64-lost-bits", operation: "fma64", holds: is_lost },
+    Kind { entry: "fma32-rounded-twice", operation: "fma32", holds: is_rounded_twice },
+];
 
-/// The entry that explains a difference: the operands must be of its kind, and exact computation must side with us.
+/// The kind that operands are of, if they are of one.
+pub fn kind_of<'a>(
+    kinds: &'a [Kind],
+    operation: &Operation,
+    request: &Request,
+) -> Option<&'a Kind> {
+    kinds.iter().find(|kind| kind.operation == operation.name && (kind.holds)(request))
+}
+
+/// The entry that explains a difference: the operands must be of its kind, and exact computation must side with the answer
+/// that is taken for right.
 pub fn explain(
     kinds: &[Kind],
     operation: &Operation,
     request: &Request,
-    ours: &Answer,
+    right: &Answer,
 ) -> Option<&'static str> {
-    let kind =
-        kinds.iter().find(|kind| kind.operation == operation.name && (kind.holds)(request))?;
+    let kind = kind_of(kinds, operation, request)?;
     let exact = judge(operation, &request.fields(operation));
-    (exact == ours.fields(operation)).then_some(kind.entry)
+    (exact == right.fields(operation)).then_some(kind.entry)
+}
+
+/// The known differences of an operation that a run did not meet. Operands are built for each, so that where one is not
+/// met the other side is not the routine whose difference is known, or ours goes wrong with it.
+pub fn unmet(operation: &Operation, met: &BTreeMap<&'static str, u64>) -> Vec<&'static str> {
+    let of_operation = KINDS.iter().filter(|kind| kind.operation == operation.name);
+    of_operation.map(|kind| kind.entry).filter(|entry| !met.contains_key(entry)).collect()
 }
 
 /// A kind whose operation no entry names would explain by nothing. The entries are the rows of the table in the file.
@@ -63,6 +83,13 @@ mod tests {
         assert!(check_entries(&kind("fma64-lost-bits", "fma64")).is_ok());
         assert!(check_entries(&kind("fma64-lost-bits", "trunc64")).is_err());
         assert!(check_entries(&kind("made-up", "fma64")).is_err());
+    }
+    #[test]
+    fn a_known_difference_is_unmet_until_it_is_counted() {
+        let fma = find("fma64").unwrap();
+        assert_eq!(unmet(fma, &BTreeMap::new()), ["fma64-lost-bits"]);
+        assert!(unmet(fma, &BTreeMap::from([("fma64-lost-bits", 1)])).is_empty());
+        assert!(unmet(find("trunc64").unwrap(), &BTreeMap::new()).is_empty());
     }
     #[test]
     fn operands_of_the_kind_with_the_exact_answer_are_explained() {

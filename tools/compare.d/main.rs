@@ -7,13 +7,19 @@
 
 #[cfg(test)]
 mod faults;
+#[cfg(test)]
+mod faults_rounded;
+mod fused;
+mod fused_ties;
 mod kinds;
+mod known;
 mod numbers;
 mod quick;
 mod record;
 mod reductions;
 mod remainders;
 mod request;
+mod roots;
 mod run;
 mod table;
 mod tally;

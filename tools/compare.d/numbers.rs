@@ -47,3 +47,33 @@ pub fn subnormal(length: u64, random: &mut Random) -> u64 {
     let any = random.below(one);
     one | random.pick(&[any, any, 0, one - 1, 1 & (one - 1)])
 }
+
+/// The pattern of `digits` times 2^exponent, where the format has that number.
+pub fn scaled(format: Format, digits: u64, exponent: i32) -> u64 {
+    let top = exponent + digits.ilog2() as i32 + format.unit_shift() as i32;
+    placed(format, digits.into(), top as u32)
+}
+
+/// Two numbers of these digits whose product is the digits' product times 2^exponent, one of the two as large as it may
+/// be, or as small, or anything between. Where there are no such two, those that come nearest.
+pub fn factors(format: Format, digits: [u64; 2], exponent: i32, random: &mut Random) -> [u64; 2] {
+    let least = -(format.unit_shift() as i32);
+    let most = digits.map(|one| format.bias() as i32 - one.ilog2() as i32);
+    let (low, high) = (least.max(exponent - most[1]), most[0].min(exponent - least));
+    let first = match low < high {
+        true => random.between(low, high),
+        false => (exponent / 2).clamp(least, most[0]),
+    };
+    let second = (exponent - first).clamp(least, most[1]);
+    [scaled(format, digits[0], first), scaled(format, digits[1], second)]
+}
+
+/// The exponent of the last place of a finite number.
+pub fn last_place(format: Format, x: u64) -> i32 {
+    format.exponent_field(x).max(1) as i32 - 1 - format.unit_shift() as i32
+}
+
+/// A magnitude so many places further, as far as finite numbers go.
+pub fn moved(format: Format, magnitude: u64, places: i32) -> u64 {
+    magnitude.saturating_add_signed(places.into()).min(format.largest_finite())
+}

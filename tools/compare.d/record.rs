@@ -1,15 +1,17 @@
 //! What a run leaves behind: lines with the crate's answers, and rows of a table of runs.
 
-use crate::kinds::{KINDS, explain};
+use crate::kinds::{KINDS, kind_of};
 use crate::lines::{write_fields, write_request};
+use crate::request::Answer;
 use crate::run::{Run, operation_of, requests};
-use crate::table::{Nans, Row};
+use crate::table::{Judge, Nans, Row};
 use crate::tally::Tally;
 use std::collections::HashSet;
 use std::io::Write;
 
-/// `count` different requests with the crate's answers. Where any two NaNs are equal the canonical one is written, and
-/// operands on which the crate is known to differ are left out, so that what is written is what ours must answer.
+/// `count` different requests with the crate's answers, or the plain program's where that judges. Where any two NaNs are
+/// equal the canonical one is written, and operands of the known differences are left out where it judges, so that
+/// what is written is what ours must answer.
 pub fn print_lines(row: &Row, seed: u64, count: u64) {
     let operation = operation_of(row);
     let mut seen = HashSet::new();
@@ -17,11 +19,14 @@ pub fn print_lines(row: &Row, seed: u64, count: u64) {
         if seen.len() as u64 == count {
             break;
         }
-        let mut answer = (row.crates)(&request);
+        let mut answer = match row.judge {
+            Judge::Crate => (row.crates)(&request),
+            Judge::Plain(_) => Answer::exact(operation, &request),
+        };
         if row.nans == Nans::Equal && operation.format.is_nan(answer.word) {
             answer.word = operation.format.canonical_nan();
         }
-        if explain(&KINDS, operation, &request, &(row.ours)(&request)).is_some() {
+        if row.judge == Judge::Crate && kind_of(&KINDS, operation, &request).is_some() {
             continue;
         }
         let text = write_request(operation, &request.fields(operation));

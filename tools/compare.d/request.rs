@@ -1,5 +1,6 @@
 //! A request and an answer as plain numbers, cheap enough for billions of them, and the same as fields of a line.
 
+use crate::answers::judge;
 use crate::operations::{Field, INEXACT, INVALID, Kind, OK, Operation, Status};
 
 /// Words, at most one decimal number, and lists, each in the order of the line.
@@ -28,6 +29,9 @@ impl Request {
     pub fn two_words(x: u64, y: u64) -> Request {
         Request { words: [x, y, 0], ..Request::default() }
     }
+    pub fn three_words([x, y, z]: [u64; 3]) -> Request {
+        Request { words: [x, y, z], ..Request::default() }
+    }
     pub fn reduction(x: u64, shift: u32, y: u64) -> Request {
         Request { words: [x, y, 0], number: shift.into(), ..Request::default() }
     }
@@ -42,6 +46,12 @@ impl Request {
     }
     pub fn y32(&self) -> u32 {
         self.words[1] as u32
+    }
+    pub fn z(&self) -> u64 {
+        self.words[2]
+    }
+    pub fn z32(&self) -> u32 {
+        self.words[2] as u32
     }
     pub fn n(&self) -> i32 {
         self.number as i32
@@ -105,6 +115,21 @@ impl Answer {
         Answer { word, number: number.into(), ..Answer::default() }
     }
 
+    /// The exact answer, by the plain program.
+    pub fn exact(operation: &Operation, request: &Request) -> Answer {
+        let mut answer = Answer::default();
+        for field in judge(operation, &request.fields(operation)) {
+            match field {
+                Field::Word(word) => answer.word = word,
+                Field::Signed(number) => answer.number = number.into(),
+                Field::Unsigned(number) => answer.number = number.into(),
+                Field::Status(status) => answer.number = number_of(status),
+                Field::Words(list) => answer.list = list,
+            }
+        }
+        answer
+    }
+
     pub fn fields(&self, operation: &Operation) -> Vec<Field> {
         let field = |kind: &Kind| match kind {
             Kind::Word => Field::Word(self.word),
@@ -114,6 +139,16 @@ impl Answer {
             Kind::Status => Field::Status(status_of(self.number)),
         };
         operation.answer_kinds().iter().map(field).collect()
+    }
+}
+
+/// The number of a status in docs/DIFFERENCES.md.
+fn number_of(status: Status) -> i64 {
+    match status {
+        OK => 0,
+        INVALID => 1,
+        INEXACT => 32,
+        _ => -1,
     }
 }
 

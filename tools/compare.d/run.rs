@@ -2,12 +2,12 @@
 
 use crate::answers::judge;
 use crate::cases::Requests;
-use crate::kinds::{KINDS, explain};
+use crate::kinds::{KINDS, explain, unmet};
 use crate::lines::{write_fields, write_request};
 use crate::operations::{self, Kind, Operation};
 use crate::random::Random;
 use crate::request::{Answer, Request};
-use crate::table::{Nans, Row};
+use crate::table::{Judge, Nans, Row};
 use crate::tally::{Progress, Tally, kind_names};
 use std::panic::{AssertUnwindSafe, catch_unwind};
 use std::sync::Mutex;
@@ -25,6 +25,8 @@ pub enum Spoiled {
     /// What stands beside our word: a status, a quotient, a refusal.
     Number,
     Crate,
+    /// The plain program's answer, where that judges.
+    Judge,
 }
 
 impl Spoiled {
@@ -33,6 +35,7 @@ impl Spoiled {
             "ours" => Ok(Spoiled::Ours),
             "number" => Ok(Spoiled::Number),
             "crate" => Ok(Spoiled::Crate),
+            "judge" => Ok(Spoiled::Judge),
             _ => Err(format!("nothing called '{text}' can be spoiled")),
         }
     }
@@ -75,9 +78,13 @@ impl Run {
                 progress.tell(row.name, turn, count);
             }
         }
+        tally.unmet = unmet(operation, &tally.explained);
         let kinds = tally.kinds_text(row);
         let tally = tally.close();
         println!("{}: of these {kinds}", row.name);
+        if let Judge::Plain(beside) = row.judge {
+            println!("{}: the plain program judged, ours and {beside}", row.name);
+        }
         tally
     }
 
@@ -112,20 +119,38 @@ impl Run {
             }
             return;
         };
+        let mut judged = match row.judge {
+            Judge::Crate => None,
+            Judge::Plain(beside) => Some((Answer::exact(tally.operation, request), beside)),
+        };
         if tally.tried % 1000 == 0 {
-            self.spoil(tally.operation, &mut ours, &mut crates);
+            self.spoil(tally.operation, &mut ours, &mut crates, &mut judged);
         }
         if tally.operation.answer_kinds()[0] == Kind::Unsigned {
             *tally.refusals.entry(ours.number).or_default() += 1;
         }
-        if !same(row.nans, tally.operation, &ours, &crates) {
-            report(request, &ours, &crates, tally);
+        let is_same = |one: &Answer, other: &Answer| same(row.nans, tally.operation, one, other);
+        let differing = match &judged {
+            None => [(!is_same(&ours, &crates)).then_some((&ours, "the crate", &crates)), None],
+            Some((judged, beside)) => [
+                (!is_same(&ours, judged)).then_some((&ours, "the judge", judged)),
+                (!is_same(judged, &crates)).then_some((judged, *beside, &crates)),
+            ],
+        };
+        for (right, who, answer) in differing.into_iter().flatten() {
+            report(request, right, who, answer, tally);
         }
     }
 }
 
 impl Run {
-    fn spoil(&self, operation: &Operation, ours: &mut Answer, crates: &mut Answer) {
+    fn spoil(
+        &self,
+        operation: &Operation,
+        ours: &mut Answer,
+        crates: &mut Answer,
+        judged: &mut Option<(Answer, &str)>,
+    ) {
         match self.spoiled {
             Spoiled::Nothing => {}
             Spoiled::Ours => ours.word ^= 1,
@@ -133,6 +158,7 @@ impl Run {
             // Any two NaNs may count as the same.
             Spoiled::Crate if operation.format.is_nan(crates.word) => crates.word = 0,
             Spoiled::Crate => crates.word ^= 1,
+            Spoiled::Judge => judged.iter_mut().for_each(|(judged, _)| judged.word ^= 1),
         }
     }
 }
@@ -153,9 +179,10 @@ fn leaves_status_out(operation: &Operation) -> bool {
     !oracle::api::STATUSES && operation.answer_kinds().contains(&Kind::Status)
 }
 
-fn report(request: &Request, ours: &Answer, crates: &Answer, tally: &mut Tally) {
+/// `right` is taken for right, and `who` gives another answer.
+fn report(request: &Request, right: &Answer, who: &str, other: &Answer, tally: &mut Tally) {
     let operation = tally.operation;
-    if let Some(entry) = explain(&KINDS, operation, request, ours) {
+    if let Some(entry) = explain(&KINDS, operation, request, right) {
         *tally.explained.entry(entry).or_default() += 1;
         return;
     }
@@ -164,11 +191,11 @@ fn report(request: &Request, ours: &Answer, crates: &Answer, tally: &mut Tally) 
         return;
     }
     let operands = request.fields(operation);
-    let [ours, crates] =
-        [ours, crates].map(|side| write_fields(operation, &side.fields(operation)));
+    let [right, other] =
+        [right, other].map(|side| write_fields(operation, &side.fields(operation)));
     let exact = write_fields(operation, &judge(operation, &operands));
     let request = write_request(operation, &operands);
-    println!("difference: {request} -> {ours}; the crate gives {crates}; exact: {exact}");
+    println!("difference: {request} -> {right}; {who} gives {other}; exact: {exact}");
 }
 
 /// The stream of requests, each with its kind: the plain program's grid in any order, at most half of the count, so that

@@ -3,10 +3,12 @@
 //! The kinds of the operands and of the answer, a status among them or not, are those of docs/LINES.md, found by the name.
 //! A new operation is a new row here, its functions of the archive among those below, and a way to draw its operands.
 
+use crate::fused::FOR_FUSED;
 use crate::quick::{Draw, FOR_SCALING, FOR_WHOLE};
 use crate::reductions::{FOR_REDUCTIONS, by_the_crate};
 use crate::remainders::FOR_REMAINDERS;
 use crate::request::{Answer, Request};
+use crate::roots::FOR_ROOTS;
 use oracle::api;
 
 /// What becomes of NaN answers.
@@ -18,9 +20,19 @@ pub enum Nans {
     BitForBit,
 }
 
+/// Whose answers are taken for right.
+#[derive(Clone, Copy, Debug, PartialEq, Eq)]
+pub enum Judge {
+    /// The crate's, but for the differences that are known.
+    Crate,
+    /// The plain program's, as the crate's own file is not given. What is named here runs beside, and is judged too.
+    Plain(&'static str),
+}
+
 pub struct Row {
     pub name: &'static str,
     pub nans: Nans,
+    pub judge: Judge,
     /// The kinds of its operands, of which each turn takes the next.
     pub draws: &'static [Draw],
     pub ours: fn(&Request) -> Answer,
@@ -28,6 +40,12 @@ pub struct Row {
 }
 
 extern "C" {
+    fn pk_sqrt64(x: u64) -> u64;
+    fn pk_sqrt64_status(x: u64) -> u32;
+    fn pk_sqrt32(x: u32) -> u32;
+    fn pk_sqrt32_status(x: u32) -> u32;
+    fn pk_fma64(x: u64, y: u64, z: u64) -> u64;
+    fn pk_fma32(x: u32, y: u32, z: u32) -> u32;
     fn pk_trunc64(x: u64) -> u64;
     fn pk_trunc64_status(x: u64) -> u32;
     fn pk_trunc32(x: u32) -> u32;
@@ -50,10 +68,11 @@ extern "C" {
 
 // Every function of the archive takes and returns numbers, is proved to end, and touches nothing else: that is what makes
 // the calls below safe.
-pub static ROWS: [Row; 11] = [
+pub static ROWS: [Row; 15] = [
     Row {
         name: "trunc64",
         nans: Nans::BitForBit,
+        judge: Judge::Crate,
         draws: &FOR_WHOLE,
         ours: |r| unsafe { Answer::status(pk_trunc64(r.x()), pk_trunc64_status(r.x())) },
         crates: |r| Answer::both(api::trunc64(r.x())),
@@ -61,6 +80,7 @@ pub static ROWS: [Row; 11] = [
     Row {
         name: "trunc32",
         nans: Nans::BitForBit,
+        judge: Judge::Crate,
         draws: &FOR_WHOLE,
         ours: |r| unsafe { Answer::status(pk_trunc32(r.x32()).into(), pk_trunc32_status(r.x32())) },
         crates: |r| Answer::both32(api::trunc32(r.x32())),
@@ -68,6 +88,7 @@ pub static ROWS: [Row; 11] = [
     Row {
         name: "floor64",
         nans: Nans::BitForBit,
+        judge: Judge::Crate,
         draws: &FOR_WHOLE,
         ours: |r| unsafe { Answer::status(pk_floor64(r.x()), pk_floor64_status(r.x())) },
         crates: |r| Answer::both(api::floor64(r.x())),
@@ -75,6 +96,7 @@ pub static ROWS: [Row; 11] = [
     Row {
         name: "floor32",
         nans: Nans::BitForBit,
+        judge: Judge::Crate,
         draws: &FOR_WHOLE,
         ours: |r| unsafe { Answer::status(pk_floor32(r.x32()).into(), pk_floor32_status(r.x32())) },
         crates: |r| Answer::both32(api::floor32(r.x32())),
@@ -82,6 +104,7 @@ pub static ROWS: [Row; 11] = [
     Row {
         name: "scalbn64",
         nans: Nans::Equal,
+        judge: Judge::Crate,
         draws: &FOR_SCALING,
         ours: |r| unsafe { Answer::value(pk_scalbn64(r.x(), r.n())) },
         crates: |r| Answer::value(api::scalbn64(r.x(), r.n())),
@@ -89,6 +112,7 @@ pub static ROWS: [Row; 11] = [
     Row {
         name: "scalbn32",
         nans: Nans::Equal,
+        judge: Judge::Crate,
         draws: &FOR_SCALING,
         ours: |r| unsafe { Answer::value(pk_scalbn32(r.x32(), r.n()).into()) },
         crates: |r| Answer::value(api::scalbn32(r.x32(), r.n()).into()),
@@ -96,6 +120,7 @@ pub static ROWS: [Row; 11] = [
     Row {
         name: "fmod64",
         nans: Nans::Equal,
+        judge: Judge::Crate,
         draws: &FOR_REMAINDERS,
         ours: |r| unsafe { Answer::value(pk_fmod64(r.x(), r.y())) },
         crates: |r| Answer::value(api::fmod64(r.x(), r.y())),
@@ -103,6 +128,7 @@ pub static ROWS: [Row; 11] = [
     Row {
         name: "fmod32",
         nans: Nans::Equal,
+        judge: Judge::Crate,
         draws: &FOR_REMAINDERS,
         ours: |r| unsafe { Answer::value(pk_fmod32(r.x32(), r.y32()).into()) },
         crates: |r| Answer::value(api::fmod32(r.x32(), r.y32()).into()),
@@ -110,6 +136,7 @@ pub static ROWS: [Row; 11] = [
     Row {
         name: "remquo64",
         nans: Nans::Equal,
+        judge: Judge::Crate,
         draws: &FOR_REMAINDERS,
         ours: |r| unsafe {
             Answer::quotient((pk_remquo64(r.x(), r.y()), pk_remquo64_quotient(r.x(), r.y())))
@@ -119,6 +146,7 @@ pub static ROWS: [Row; 11] = [
     Row {
         name: "reduce64",
         nans: Nans::BitForBit,
+        judge: Judge::Crate,
         draws: &FOR_REDUCTIONS,
         ours: |r| unsafe {
             Answer::refusal(
@@ -131,6 +159,7 @@ pub static ROWS: [Row; 11] = [
     Row {
         name: "reduce32",
         nans: Nans::BitForBit,
+        judge: Judge::Crate,
         draws: &FOR_REDUCTIONS,
         ours: |r| unsafe {
             Answer::refusal(
@@ -139,6 +168,38 @@ pub static ROWS: [Row; 11] = [
             )
         },
         crates: |r| by_the_crate(32, r, || api::reduce32(r.x32(), r.shift(), r.y32()).into()),
+    },
+    Row {
+        name: "sqrt64",
+        nans: Nans::Equal,
+        judge: Judge::Crate,
+        draws: &FOR_ROOTS,
+        ours: |r| unsafe { Answer::status(pk_sqrt64(r.x()), pk_sqrt64_status(r.x())) },
+        crates: |r| Answer::both(api::sqrt64(r.x())),
+    },
+    Row {
+        name: "sqrt32",
+        nans: Nans::Equal,
+        judge: Judge::Crate,
+        draws: &FOR_ROOTS,
+        ours: |r| unsafe { Answer::status(pk_sqrt32(r.x32()).into(), pk_sqrt32_status(r.x32())) },
+        crates: |r| Answer::both32(api::sqrt32(r.x32())),
+    },
+    Row {
+        name: "fma64",
+        nans: Nans::Equal,
+        judge: Judge::Crate,
+        draws: &FOR_FUSED,
+        ours: |r| unsafe { Answer::value(pk_fma64(r.x(), r.y(), r.z())) },
+        crates: |r| Answer::value(api::fma64(r.x(), r.y(), r.z())),
+    },
+    Row {
+        name: "fma32",
+        nans: Nans::Equal,
+        judge: Judge::Plain("the later text of fmaf"),
+        draws: &FOR_FUSED,
+        ours: |r| unsafe { Answer::value(pk_fma32(r.x32(), r.y32(), r.z32()).into()) },
+        crates: |r| Answer::value(api::fma32(r.x32(), r.y32(), r.z32()).into()),
     },
 ];
 

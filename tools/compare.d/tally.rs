@@ -20,6 +20,8 @@ pub struct Tally {
     pub unexplained: u64,
     pub panics: u64,
     pub explained: BTreeMap<&'static str, u64>,
+    /// The known differences that should have been met and were not.
+    pub unmet: Vec<&'static str>,
     /// How many operands of each kind there were, in the order of `kind_names`.
     pub kinds: Vec<u64>,
     /// How often ours gave each number of a refusal, 0 among them; for the operations that have refusals.
@@ -38,10 +40,11 @@ impl Tally {
             unexplained: 0,
             panics: 0,
             explained: BTreeMap::new(),
+            unmet: Vec::new(),
         }
     }
     pub fn is_clean(&self) -> bool {
-        self.unexplained == 0 && self.panics == 0
+        self.unexplained == 0 && self.panics == 0 && self.unmet.is_empty()
     }
     pub fn explained_text(&self) -> String {
         let texts: Vec<String> =
@@ -68,6 +71,11 @@ impl Tally {
         println!(
             "{name}: {operands} operands, seed {seed}: {found} differences not explained, explained: {explained}{panics}"
         );
+        for entry in &self.unmet {
+            println!(
+                "{name}: the known difference {entry} was not met: the other side is not the routine that has it, or ours has it too"
+            );
+        }
         self
     }
 }
