@@ -140,3 +140,68 @@ pub fn random<W: Word>(random: &mut Random) -> (W, u32, W) {
 pub fn longest<W: Word>(random: &mut Random) -> (W, u32, W) {
     reduction(random, 4096)
 }
+
+/// A number with these digits, the last of them at this exponent; the sign is the one that is given.
+fn digits<W: Word>(sign: u64, digits: u64, exponent: i32) -> W {
+    let top = digits.ilog2();
+    let field = ((exponent + top as i32 + W::BIAS) as u64) << W::FRACTION_BITS;
+    let fraction = digits << (W::FRACTION_BITS - top) & ((1 << W::FRACTION_BITS) - 1);
+    W::of(sign << (W::WIDTH - 1) | field | fraction)
+}
+
+/// normal numbers above zero, every exponent alike often
+pub fn positive<W: Word>(random: &mut Random) -> (W,) {
+    let exponent = random.between(W::SMALLEST, W::BIAS) - W::FRACTION_BITS as i32;
+    (digits(0, random.of_bits(W::FRACTION_BITS + 1), exponent),)
+}
+
+/// normal numbers above zero whose root is a number
+pub fn squares<W: Word>(random: &mut Random) -> (W,) {
+    let root = random.up_to_bits((W::FRACTION_BITS + 1) / 2);
+    let half = random.between(W::SMALLEST / 2, (W::BIAS - W::FRACTION_BITS as i32) / 2);
+    (digits(0, root * root, 2 * half),)
+}
+
+/// subnormal numbers above zero, every length alike often
+pub fn small<W: Word>(random: &mut Random) -> (W,) {
+    (W::of(random.up_to_bits(W::FRACTION_BITS)),)
+}
+
+/// Normal numbers x and y, and z with its exponent so many places above the sum of theirs.
+fn sum<W: Word>(random: &mut Random, above: i32) -> (W, W, W) {
+    let middle = W::BIAS / 3;
+    let (first, second) = (random.between(-middle, middle), random.between(-middle, middle));
+    (number(random, first), number(random, second), number(random, first + second + above))
+}
+
+/// normal numbers, the exponent of z within 4 of the product's
+pub fn level<W: Word>(random: &mut Random) -> (W, W, W) {
+    let above = random.between(-4, 4);
+    sum(random, above)
+}
+
+/// normal numbers, the exponent of z from 160 below the product's to 160 above (40 at width 32), each alike often
+pub fn spread<W: Word>(random: &mut Random) -> (W, W, W) {
+    let most = if W::WIDTH == 64 { 160 } else { 40 };
+    let above = random.between(-most, most);
+    sum(random, above)
+}
+
+/// z the first digits of the product, with the other sign, so that the sum is what is left of it
+pub fn cancelling<W: Word>(random: &mut Random) -> (W, W, W) {
+    let one = W::FRACTION_BITS + 1;
+    let (first, second) = (random.of_bits(one), random.of_bits(one));
+    let product = first as u128 * second as u128;
+    let cut = product.ilog2() + 1 - one;
+    let exponent = random.between(-W::BIAS / 4, W::BIAS / 4) - one as i32;
+    let z = digits(1, (product >> cut) as u64, 2 * exponent + cut as i32);
+    (digits(0, first, exponent), digits(0, second, exponent), z)
+}
+
+/// normal numbers x and y with a product among the subnormal numbers, and a subnormal z of any length
+pub fn tiny<W: Word>(random: &mut Random) -> (W, W, W) {
+    let target = random.between(W::SMALLEST - W::FRACTION_BITS as i32, W::SMALLEST - 1);
+    let exponent = random.between(W::SMALLEST, target - W::SMALLEST);
+    let z = (random.coin() as u64) << (W::WIDTH - 1) | random.up_to_bits(W::FRACTION_BITS);
+    (number(random, exponent), number(random, target - exponent), W::of(z))
+}

@@ -5,8 +5,8 @@
 
 use crate::operands;
 use crate::run::Run;
-use oracle::math::support::{linear_mul_reduction, FpResult, Status};
-use oracle::math::{generic, remquo};
+use oracle::math::support::{linear_mul_reduction, FpResult, Round, Status};
+use oracle::math::{fma, fmaf, generic, remquo};
 
 pub struct Operation {
     pub name: &'static str,
@@ -88,6 +88,12 @@ operations! {
     reduce32          (x: u32, shift: u32, y: u32) [pk_reduce32: u32]                            { linear_mul_reduction(x, shift, y) }                             [random, longest];
     reduce64_refusal  (x: u64, shift: u32, y: u64) [pk_reduce64: u64, pk_reduce64_refusal: u32]  { (linear_mul_reduction(x, shift, y), 0) }                        [random, longest];
     reduce32_refusal  (x: u32, shift: u32, y: u32) [pk_reduce32: u32, pk_reduce32_refusal: u32]  { (linear_mul_reduction(x, shift, y), 0) }                        [random, longest];
+    sqrt64            (x: u64)                     [pk_sqrt64: u64]                              { root64(x).val.to_bits() }                                       [patterns, positive, squares, small];
+    sqrt32            (x: u32)                     [pk_sqrt32: u32]                              { root32(x).val.to_bits() }                                       [patterns, positive, squares, small];
+    sqrt64_status     (x: u64)                     [pk_sqrt64: u64, pk_sqrt64_status: u32]       { both64(root64(x)) }                                             [patterns, positive];
+    sqrt32_status     (x: u32)                     [pk_sqrt32: u32, pk_sqrt32_status: u32]       { both32(root32(x)) }                                             [patterns, positive];
+    fma64             (x: u64, y: u64, z: u64)     [pk_fma64: u64]                               { fma(f64::from_bits(x), f64::from_bits(y), f64::from_bits(z)).to_bits() } [patterns, level, spread, cancelling, tiny];
+    fma32             (x: u32, y: u32, z: u32)     [pk_fma32: u32]                               { fmaf(f32::from_bits(x), f32::from_bits(y), f32::from_bits(z)).to_bits() } [patterns, level, spread, cancelling, tiny];
 }
 
 #[no_mangle]
@@ -101,6 +107,13 @@ extern "C" fn identity64(x: u64) -> u64 {
 extern "C" fn identity32(x: u32) -> u32 {
     veil!((x: u32));
     x
+}
+
+fn root64(x: u64) -> FpResult<f64> {
+    generic::sqrt_round(f64::from_bits(x), Round::Nearest)
+}
+fn root32(x: u32) -> FpResult<f32> {
+    generic::sqrt_round(f32::from_bits(x), Round::Nearest)
 }
 
 fn both64(result: FpResult<f64>) -> (u64, u32) {

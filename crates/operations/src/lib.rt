@@ -12,6 +12,10 @@
 //   remquo64 X Y        remquo64 c01c000000000000 4000000000000000    what is left of X by the nearest multiple of Y, and which one, modulo 2^31
 //   reduce64 X SHIFT Y  reduce64 0000000000000005 3 0000000000000007  0 or a refusal, and the plain number (X times 2^SHIFT) mod Y
 //   reduce32 X SHIFT Y  reduce32 00000005 3 00000000
+//   sqrt64 X            sqrt64 4000000000000000                       the root of X, rounded once
+//   sqrt32 X            sqrt32 40000000
+//   fma64 X Y Z         fma64 4000000000000000 4008000000000000 3ff0000000000000  X times Y plus Z, rounded once
+//   fma32 X Y Z         fma32 40000000 40400000 3f800000
 use lines::Fault;
 use lines::find;
 use lines::part;
@@ -81,6 +85,10 @@ pub fn row_of(op: usize) -> Row {
         8 => named(b"remquo64", Kind::Word64, Kind::Word64, Kind::Nothing),
         9 => named(b"reduce64", Kind::Word64, Kind::Unsigned, Kind::Word64),
         10 => named(b"reduce32", Kind::Word32, Kind::Unsigned, Kind::Word32),
+        11 => named(b"sqrt64  ", Kind::Word64, Kind::Nothing, Kind::Nothing),
+        12 => named(b"sqrt32  ", Kind::Word32, Kind::Nothing, Kind::Nothing),
+        13 => named(b"fma64   ", Kind::Word64, Kind::Word64, Kind::Word64),
+        14 => named(b"fma32   ", Kind::Word32, Kind::Word32, Kind::Word32),
         _ => named(b"        ", Kind::Nothing, Kind::Nothing, Kind::Nothing),
     }
 }

@@ -1,10 +1,15 @@
 // Computes every request of a list of answered lines anew, and compares each line with what is written there, byte for byte. The first argument
-// names the list. Writes the first differences, the counts for each operation, and a last line with all of them.
+// names the list, and the second, where there is one, another. Writes for each the first differences, the counts for each operation, and a last
+// line with all of them.
 //
 // data/answers.lines holds what the crate answers, recorded, so that its answers are compared with where no Rust compiler is at hand. It is made,
 // and made again, by
 //     tools/compare --given DIR --lines 500 --seed 20261115 >crates/replay/data/answers.lines
-// where DIR is the folder of the given text of libm 0.2.16. Where the crate is known to be wrong, tools/compare leaves the operands out.
+// where DIR is the folder of the given text of libm 0.2.16. Where the crate is known to be wrong, tools/compare leaves the operands out; the answers
+// of fma32 are those of the judge, since the crate's own file is not given.
+//
+// data/published.lines holds the test vectors of the GNU C Library for sqrt, fma and scalbn, so that they run where that library is not at hand. It is
+// made by tools/vectors.
 use libc::STDERR_FILENO;
 use libc::STDOUT_FILENO;
 use lines::Kept;
@@ -221,6 +226,18 @@ fn replay(fd: i32) -> bool {
     true
 }
 
+fn replay_named(path: &[u8]) {
+    let fd = os::open_read(path);
+    if fd < 0 {
+        os::fail(path);
+        return;
+    }
+    if !replay(fd) {
+        io::write_all(STDERR_FILENO, b"replay: the list cannot be read\n");
+    }
+    libc::close(fd);
+}
+
 fn main() {
     let mut path = io::buffer();
     let length = os::arg(1, &mut path);
@@ -228,13 +245,9 @@ fn main() {
         os::fail(b"replay: the list's name");
         return;
     }
-    let fd = os::open_read(&path[..length]);
-    if fd < 0 {
-        os::fail(&path[..length]);
-        return;
+    replay_named(&path[..length]);
+    let second = os::arg(2, &mut path);
+    if os::errno() == 0 {
+        replay_named(&path[..second]);
     }
-    if !replay(fd) {
-        io::write_all(STDERR_FILENO, b"replay: the list cannot be read\n");
-    }
-    libc::close(fd);
 }

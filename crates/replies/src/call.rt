@@ -15,6 +15,10 @@ pub fn answer_of(op: usize, a: Operands) -> Answer {
         8 => quotient64(paskerotim::remquo64(a.x, a.y)),
         9 => refusal64(paskerotim::reduce64(a.x, low(a.y), a.z)),
         10 => refusal32(paskerotim::reduce32(low(a.x), low(a.y), low(a.z))),
+        11 => status64(paskerotim::sqrt64_status(a.x)),
+        12 => status32(paskerotim::sqrt32_status(low(a.x))),
+        13 => word64(paskerotim::fma64(a.x, a.y, a.z)),
+        14 => word32(paskerotim::fma32(low(a.x), low(a.y), low(a.z))),
         _ => Answer::Nothing,
     }
 }
