@@ -10,8 +10,8 @@ use env::FpResult32;
 use env::FpResult64;
 use rooting::rooted;
 
-// Whether x is a zero, subnormal, infinite, a NaN or negative. The patterns of the others run from the smallest normal number's to infinity's: less the
-// smallest, what was below it wraps to the far side of infinity, where the others stand.
+// Whether x is a zero, subnormal, infinite, a NaN or negative. All other patterns run from that of the smallest normal number up to infinity's: less the
+// smallest, what was below it wraps to the far side of infinity, where NaNs and negative operands are.
 fn set_aside(frac: u32, expo: u32, x: u64) -> bool
     requires { ⌜ Fits frac expo ⌝ }
     ensures { λ r. ⌜ r ≡ setAside (format frac expo) x ⌝ }
@@ -21,7 +21,8 @@ fn set_aside(frac: u32, expo: u32, x: u64) -> bool
     std::num::wrapping_sub_u64(x, least) >= inf - least
 }
 
-// Each class by itself: zeros and +infinity are their own roots; what else stands at or past infinity is a NaN or below zero; a subnormal number has its root taken.
+// Each class by itself: zeros and +infinity are their own roots, every other pattern past +infinity's is a NaN or below zero, and a subnormal number has its
+// root taken.
 fn by_class(frac: u32, expo: u32, x: u64) -> u64
     requires { ⌜ Fits frac expo × Pattern (format frac expo) x ⌝ }
     ensures { λ r. ⌜ r ≡ sqrtOf (format frac expo) x ⌝ }
@@ -40,6 +41,7 @@ fn by_class(frac: u32, expo: u32, x: u64) -> u64
     rooted(frac, expo, x)
 }
 
+// Most operands are told by the one comparison.
 fn of_pattern(frac: u32, expo: u32, x: u64) -> u64
     requires { ⌜ Fits frac expo × Pattern (format frac expo) x ⌝ }
     ensures { λ r. ⌜ r ≡ sqrtOf (format frac expo) x ⌝ }
