@@ -1,15 +1,15 @@
 -- The five classes by the pattern: one comparison finds them all. Assumes nothing.
-use Prim.Native.Nat.{ℕ, suc, _+_, _-_, _*_, _/_, _%_, _^_, _≤_, _<_}
+use Prim.Native.Nat.{ℕ, _+_, _-_, _/_, _%_, _^_, _≤_, _<_}
 use mathlib.Core.Path.{_≡_, refl, sym, ap, _∙_}
 use mathlib.Core.Bool.{Bool, true, false, _&&_, _||_, or-true}
 use native.Mathlib.Nat.{mod-eq-of-lt}
 use native.Mathlib.Omega.{arith}
-use lib.Dec.{leb, ltb, eqb}
+use lib.Dec.{leb, ltb}
 use lib.Pow.{pow-add, pow-pos}
-use borrow.Author.Tests.{le-leb, lt-leb, lt-ltb, le-ltb, eq-eqb, ne-eqb, eqb-false, ltb-false, leb-false}
+use borrow.Author.Tests.{le-leb, lt-leb, lt-ltb, le-ltb, eq-eqb, ne-eqb, eqb-false, ltb-false}
 use Rattle.algebra.proofs.Products.{order, mul-lt-cancel}
 use Rattle.algebra.proofs.Quotients.{div-mod, div-is}
-use Rattle.ieee.specs.Format.{Format, Fair, top, inf}
+use Rattle.ieee.specs.Format.{Format, top, inf}
 use Rattle.ieee.specs.Pattern.{magnitude, field, fraction, minus}
 use Rattle.ieee.proofs.Patterns.{inf-below-top}
 use Rattle.root.specs.Classes.{isZero, isSubnormal, isInfinite, isNan, isNegative, setAside}

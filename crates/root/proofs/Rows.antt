@@ -1,6 +1,6 @@
 -- The rows of the root by the pattern, as the code tells them apart; and every answer is a pattern. Assumes nothing.
-use Prim.Native.Nat.{ℕ, zero, suc, _+_, _-_, _*_, _%_, _^_, _≤_, _<_}
-use mathlib.Core.Path.{_≡_, refl, sym, ap, _∙_}
+use Prim.Native.Nat.{ℕ, zero, suc, _-_, _≤_, _<_}
+use mathlib.Core.Path.{_≡_, ap, _∙_}
 use mathlib.Core.Bool.{Bool, true, false}
 use native.Mathlib.Nat.{mod-eq-of-lt}
 use native.Mathlib.Omega.{arith}
@@ -8,7 +8,7 @@ use lib.Pow.{pow-pos, pow-mono}
 use borrow.Author.Tests.{le-leb, lt-leb}
 use Rattle.algebra.proofs.Products.{order}
 use Rattle.algebra.proofs.Quotients.{mod-is}
-use Rattle.ieee.specs.Format.{Format, Fair, top, inf, canonical, units}
+use Rattle.ieee.specs.Format.{Format, top, inf, canonical, units}
 use Rattle.ieee.specs.Pattern.{Pattern, magnitude, minus, Kind, nan, infinite, finite, kind}
 use Rattle.ieee.specs.Round.{ties-to-even}
 use Rattle.ieee.specs.Sqrt.{sqrtBy, sqrtIn, sqrtOf, sqrtStatus, rootOf}
@@ -18,7 +18,7 @@ use Rattle.ieee.proofs.Patterns.{inf-below-top, kind-nan, kind-infinite, kind-f
 use Rattle.ieee.proofs.Sqrts.{SqrtRows, sqrt-rows}
 use Rattle.ieee.proofs.Units.{units-zero, units-lt}
 use Rattle.fields.specs.Width.{format, Fits}
-use Rattle.sorting.proofs.Sorts.{infinity-top, infinity-some}
+use Rattle.sorting.proofs.Sorts.{infinity-top}
 
 module _ (f : Format) (x : ℕ) where
   rows : SqrtRows f ties-to-even

@@ -1,21 +1,21 @@
 -- The root of a number above zero is the whole root of its square, with the sticky mark, rounded. Assumes nothing.
 use Prim.Native.Nat.{ℕ, suc, _+_, _-_, _*_, _/_, _%_, _^_, _≤_, _<_}
-use mathlib.Core.Path.{_≡_, refl, sym, ap, _∙_}
-use mathlib.Core.Bool.{Bool, true, false, cond}
+use mathlib.Core.Path.{_≡_, sym, ap, _∙_}
+use mathlib.Core.Bool.{Bool, true, false}
 use native.Mathlib.Omega.{arith}
 use lib.Dec.{eqb}
-use lib.IntN.{ℤ, pos, natAbs, _+ℤ_, _-ℤ_}
+use lib.IntN.{ℤ, pos, natAbs, _+ℤ_}
 use lib.Pow.{pow-add, pow-pos}
 use borrow.Author.Tests.{eqb-true, eqb-false}
-use Rattle.algebra.proofs.Products.{order, times, times-le, mul-eq-cancel, mul-lt-cancel}
+use Rattle.algebra.proofs.Products.{times, times-le, mul-eq-cancel, mul-lt-cancel}
 use Rattle.algebra.proofs.Roots.{sq-lt, Root}
-use Rattle.algebra.proofs.Integers.{up, dn, addZ, subZ, eqZ-fact}
+use Rattle.algebra.proofs.Integers.{addZ, subZ, eqZ-fact}
 use Rattle.ieee.specs.Format.{Format, Fair, low, inf, units}
-use Rattle.ieee.specs.Pattern.{magnitude, minus, finite, kind, value}
+use Rattle.ieee.specs.Pattern.{magnitude, minus, finite, kind}
 use Rattle.ieee.specs.Exact.{surd, root}
 use Rattle.ieee.specs.Round.{ties-to-even, answer}
 use Rattle.ieee.specs.Scalbn.{scaled}
-use Rattle.ieee.specs.Sqrt.{exactSqrt, sqrtOf}
+use Rattle.ieee.specs.Sqrt.{sqrtOf}
 use Rattle.ieee.proofs.Patterns.{kind-finite, value-finite}
 use Rattle.ieee.proofs.Signs.{abs-signed}
 use Rattle.ieee.proofs.Sqrts.{sqrt-answer}

@@ -10,9 +10,8 @@ use Rattle.ieee.specs.Format.{Format, Fair}
 use Rattle.ieee.specs.Pattern.{magnitude}
 use Rattle.fields.specs.Width.{format, Fits}
 use Rattle.significands.specs.Significand.{sigOf}
-use Rattle.significands.proofs.Significands.{Normal, normal-is}
-use Rattle.roots.specs.Floor.{FloorRoot, pairs}
-use Rattle.roots.proofs.Digits.{root-small}
+use Rattle.significands.proofs.Significands.{normal-is}
+use Rattle.roots.specs.Floor.{pairs}
 use Rattle.rooting.specs.Split.{square}
 
 -- there are twice as many fields as the bias counts

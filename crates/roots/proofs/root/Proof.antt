@@ -1,8 +1,7 @@
 -- The invariant: the root of the pairs that were read, what its square leaves of them, and the rest of the word (Digits). Assumes nothing.
 use Prim.Native.Nat.{ℕ, suc, _+_, _*_, _/_, _%_, _^_, _≤_, _<_}
-use mathlib.Core.Path.{_≡_, ap, sym, subst, _∙_}
+use mathlib.Core.Path.{_≡_, subst, _∙_}
 use native.Mathlib.Omega.{arith}
-use borrow.Author.Needs.{needs}
 use lib.Dec.{eqb}
 use lib.Pow.{pow-mono}
 use Rattle.roots.specs.Floor.{FloorRoot, pairs}

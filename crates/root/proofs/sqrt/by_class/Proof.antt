@@ -1,14 +1,14 @@
 -- Each way through is a row of the root (Rows). Assumes nothing.
-use Prim.Native.Nat.{ℕ, _+_, _-_, _%_, _^_, _<_}
+use Prim.Native.Nat.{_-_, _%_, _<_}
 use mathlib.Core.Path.{_≡_, sym, ap}
 use native.Mathlib.Omega.{arith}
 use borrow.Author.Needs.{needs}
-use lib.Pow.{pow-pos, pow-mono}
+use lib.Pow.{pow-mono}
 use Rattle.ieee.specs.Format.{Format, inf}
 use Rattle.ieee.specs.Pattern.{magnitude}
 use Rattle.fields.specs.Width.{format}
 use Rattle.sorting.proofs.Sorts.{infinity-top, infinity-some, top-room}
-use Rattle.root.proofs.Asides.{Above, below-above}
+use Rattle.root.proofs.Asides.{below-above}
 use Rattle.root.proofs.Rows.{at-zero, at-infinity, past-infinity}
 use Rattle.root.proofs.sqrt.by_class.Statement.{statement}
 use Rattle.root.proofs.sqrt.by_class.Tie as tie

@@ -2,7 +2,7 @@
 use mathlib.Core.Path.{sym, _∙_}
 use borrow.Author.Needs.{needs}
 use Rattle.fields.specs.Width.{format}
-use Rattle.root.proofs.Asides.{Above, stays-above}
+use Rattle.root.proofs.Asides.{stays-above}
 use Rattle.root.proofs.sqrt.of_pattern.Statement.{statement}
 use Rattle.root.proofs.sqrt.of_pattern.Tie as tie
 

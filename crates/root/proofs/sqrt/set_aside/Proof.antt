@@ -1,9 +1,9 @@
 -- One comparison finds the five classes (Asides). Assumes nothing.
-use Prim.Native.Nat.{_+_, _-_, _*_, _^_, _≤_}
+use Prim.Native.Nat.{_-_, _*_, _^_, _≤_}
 use mathlib.Core.Path.{_≡_}
 use native.Mathlib.Omega.{arith}
 use borrow.Author.Needs.{needs}
-use lib.Pow.{pow-add, pow-pos}
+use lib.Pow.{pow-add}
 use Rattle.algebra.proofs.Products.{times-le}
 use Rattle.ieee.specs.Format.{Format, inf}
 use Rattle.fields.specs.Width.{format}

@@ -1,10 +1,9 @@
 -- Each way through is a row of the status (Rows). Assumes nothing.
-use Prim.Native.Nat.{ℕ, _+_, _-_, _%_, _^_, _<_}
-use mathlib.Core.Path.{_≡_, sym, ap}
+use Prim.Native.Nat.{_-_}
+use mathlib.Core.Path.{_≡_}
 use native.Mathlib.Omega.{arith}
 use borrow.Author.Needs.{needs}
 use Rattle.ieee.specs.Format.{Format, inf}
-use Rattle.ieee.specs.Pattern.{magnitude}
 use Rattle.fields.specs.Width.{format}
 use Rattle.sorting.proofs.Sorts.{infinity-top, infinity-some}
 use Rattle.root.proofs.Rows.{status-upto, status-top, status-past}
