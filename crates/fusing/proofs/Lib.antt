@@ -5,3 +5,4 @@ pub mod Joined
 pub mod Places
 pub mod Fused
 pub mod Room
+pub mod Made

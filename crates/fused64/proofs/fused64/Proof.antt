@@ -1,27 +1,22 @@
--- Each step is the law's (fusing: Fused), and all of it fits (fusing: Room). Assumes nothing.
-use Prim.Native.Nat.{ℕ, _+_, _-_, _*_, _^_, _<_}
-use mathlib.Core.Path.{_≡_, sym, ap, ap₂, _∙_, subst}
+-- Each step makes what the law has there (fusing: Made), and all of it fits (fusing: Room). Assumes nothing.
+use Prim.Native.Nat.{_+_, _-_, _*_, _^_, _<_}
+use mathlib.Core.Path.{_≡_, refl, sym, ap₂, _∙_, subst}
 use native.Mathlib.Omega.{arith}
 use borrow.Author.Needs.{needs}
 use borrow.Author.Tests.{eqb-true, eqb-false}
-use lib.IntN.{ℤ, pos, _+ℤ_, _-ℤ_}
+use lib.IntN.{_-ℤ_}
 use lib.Signed.{mag}
 use mir.Syntax.{w32}
 use mir.Val.{SFits}
 use mir.Facts.{toZ-ofZ}
 use Rattle.ieee.specs.Format.{b64}
-use Rattle.ieee.specs.Pattern.{minus, unlike}
-use Rattle.ieee.specs.Round.{answer, ties-to-even}
-use Rattle.ieee.specs.Scalbn.{scaled}
 use Rattle.ieee.proofs.Formats.{fair64}
 use Rattle.fields.proofs.Widths.{fits64}
 use Rattle.words.specs.Value.{value}
-use Rattle.norms.specs.Norm.{placeOf}
 use Rattle.norms.proofs.Asides.{Ordinary, ordinary}
-use Rattle.fusing.specs.Aligned.{productAt, thirdAt, downBy, joined, joinedSign}
-use Rattle.fusing.specs.Fused.{thirdSig, aboveBy, productSteps, thirdSteps, fusedSteps, fusedSign, fusedPlace}
-use Rattle.fusing.proofs.Fused.{fused-none, fused-own}
-use Rattle.fusing.proofs.Room.{sig-most, sum-fits, below-pow, place-mag, above-small, down-small, place-fits}
+use Rattle.fusing.specs.Fused.{thirdSig, aboveBy}
+use Rattle.fusing.proofs.Made.{Levelled, levelled, Summed, summed, at-less, nothing-left, sum-rounds}
+use Rattle.fusing.proofs.Room.{sig-most, sum-fits, below-pow, place-mag, above-small, down-small}
 use Rattle.fused64.proofs.fused64.Statement.{statement}
 use Rattle.fused64.proofs.fused64.Tie as tie
 
@@ -67,77 +62,49 @@ module _ (c : tie.After-above-by) where
   above-sfits : SFits w32 (c .above-by .result)
   above-sfits = record { sfits = omega (arith, above-less) }
 
-module _ (c : tie.After-align64) where
-  abbrev o : tie.After-above-by
-  o = c .before
-
-  made : (value (c .align64 .result .product) ≡ productAt 64 (value (n o .before .product-of .result .sig)) (o .above-by .result)) × (value (c .align64 .result .third) ≡ thirdAt 64 (n o .norm-of .result .sig * 2) (o .above-by .result))
-      × (c .align64 .result .down ≡ downBy 64 (o .above-by .result))
-  made = simp (toZ-ofZ, above-sfits o) at (c .align64 .ensures)
-
-  product-steps : value (c .align64 .result .product) ≡ productSteps b64 64 (i o .args .x) (i o .args .y) (i o .args .z)
-  product-steps = made .0 ∙ ap₂ (productAt 64) (n o .before .product-of .ensures .0) (above-is o)
-
-  third-steps : value (c .align64 .result .third) ≡ thirdSteps b64 64 (i o .args .x) (i o .args .y) (i o .args .z)
-  third-steps = made .1 ∙ ap₂ (thirdAt 64) (third-is (n o)) (above-is o)
-
-  down-is : c .align64 .result .down ≡ downBy 64 (aboveBy b64 (i o .args .x) (i o .args .y) (i o .args .z))
-  down-is = made .2 ∙ ap (downBy 64) (above-is o)
-
-module _ (c : tie.After-join64) where
-  abbrev a : tie.After-align64
-  a = c .before
-
-  abbrev m : tie.After-norm-of
-  m = n (o a)
-
-  abbrev j : tie.Start
-  j = i (o a)
-
-  sum-is : value (c .join64 .result .sum) ≡ fusedSteps b64 64 (j .args .x) (j .args .y) (j .args .z)
-  sum-is =
-      c .join64 .ensures .0
-      ∙ ap₂ (λ u v. joined u v (value (a .align64 .result .third))) (ap₂ unlike (m .before .product-of .ensures .2) (m .norm-of .ensures .2)) (product-steps a)
-      ∙ ap (joined (unlike (unlike (minus b64 (j .args .x)) (minus b64 (j .args .y))) (minus b64 (j .args .z))) (productSteps b64 64 (j .args .x) (j .args .y) (j .args .z))) (third-steps a)
-
-  neg-is : c .join64 .result .neg ≡ fusedSign b64 64 (j .args .x) (j .args .y) (j .args .z)
-  neg-is =
-      c .join64 .ensures .1
-      ∙ ap₂ (λ u v. joinedSign u v (value (a .align64 .result .product)) (value (a .align64 .result .third))) (m .before .product-of .ensures .2) (m .norm-of .ensures .2)
-      ∙ ap₂ (joinedSign (unlike (minus b64 (j .args .x)) (minus b64 (j .args .y))) (minus b64 (j .args .z))) (product-steps a) (third-steps a)
+level : (c : tie.After-align64) → let i = i (c .before) in Levelled fits64 64 (i .args .x) (i .args .y) (i .args .z) (value (c .align64 .result .product)) (value (c .align64 .result .third)) (c .align64 .result .down)
+level c =
+    let o = c .before in
+    let e = i o in
+    levelled fits64 64 (e .args .x) (e .args .y) (e .args .z) (n o .before .product-of .ensures .0) (third-is (n o)) (above-is o) (simp (toZ-ofZ, above-sfits o) at (c .align64 .ensures))
 
 module _ (c : tie.After-step-at) where
   abbrev k : tie.After-join64
   k = c .before .before .before .before
 
-  step-is : c .step-at .result ≡ fusedPlace b64 64 (j k .args .x) (j k .args .y) (j k .args .z)
-  step-is =
-      simp (toZ-ofZ, place-sfits (m k .before)) at (c .step-at .ensures)
-      ∙ ap₂ (λ u v. u +ℤ pos 1074 +ℤ pos v -ℤ pos 1) (m k .before .product-of .ensures .1) (down-is (a k))
+  abbrev m : tie.After-norm-of
+  m = n (k .before .before)
+
+  abbrev j : tie.Start
+  j = s m
+
+  sum : Summed fits64 64 (j .args .x) (j .args .y) (j .args .z) (value (k .join64 .result .sum)) (k .join64 .result .neg) (c .step-at .result)
+  sum =
+      summed fits64 64 (j .args .x) (j .args .y) (j .args .z) (level (k .before)) (m .before .product-of .ensures .2) (m .norm-of .ensures .2) (m .before .product-of .ensures .1) (k .join64 .ensures)
+      (simp (toZ-ofZ, place-sfits (m .before)) at (c .step-at .ensures))
 
   step-less : mag (c .step-at .result) < 2 ^ 20 - 64
-  step-less = rw step-is (place-fits fits64 (j k .args .x) (j k .args .y) (j k .args .z) (ox (j k)) (oy (j k)) (oz (j k)) 64)
+  step-less = at-less fits64 64 (j .args .x) (j .args .y) (j .args .z) (ox j) (oy j) (oz j) sum
 
   step-sfits : SFits w32 (c .step-at .result)
   step-sfits = record { sfits = omega (arith, step-less) }
 
 returns : tie.Need-returns
 returns c =
-    let h = c .before .before in
-    let e = j h in
-    sym (fused-none b64 fair64 64 (e .args .x) (e .args .y) (e .args .z) (ox e) (oy e) (oz e) (sym (sum-is h) ∙ eqb-true (value (h .join64 .result .sum)) 0 (sym (c .before .nothing .ensures) ∙ c .if1 .taken)))
+    let k = c .before .before in
+    let m = n (k .before .before) in
+    let e = s m in
+    nothing-left fits64 64 (e .args .x) (e .args .y) (e .args .z) (ox e) (oy e) (oz e)
+    (summed fits64 64 (e .args .x) (e .args .y) (e .args .z) (level (k .before)) (m .before .product-of .ensures .2) (m .norm-of .ensures .2) (m .before .product-of .ensures .1) (k .join64 .ensures) refl)
+    (eqb-true (value (k .join64 .result .sum)) 0 (sym (c .before .nothing .ensures) ∙ c .if1 .taken))
 
 returns-2 : tie.Need-returns-2
 returns-2 c =
     let g = c .before in
-    let h = k g in
-    let e = j h in
-    let t = fusedSign b64 64 (e .args .x) (e .args .y) (e .args .z) in
-    let some = eqb-false (value (h .join64 .result .sum)) 0 (sym (g .before .before .before .nothing .ensures) ∙ g .before .before .if1 .left) in
+    let e = j g in
+    let some = eqb-false (value (k g .join64 .result .sum)) 0 (sym (g .before .before .before .nothing .ensures) ∙ g .before .before .if1 .left) in
     simp (toZ-ofZ, step-sfits g) at (c .round-wide .ensures)
-    ∙ ap₂ (λ u v. answer b64 ties-to-even u (scaled u v (g .step-at .result))) (neg-is h) (sum-is h)
-    ∙ ap (λ v. answer b64 ties-to-even t (scaled t (fusedSteps b64 64 (e .args .x) (e .args .y) (e .args .z)) v)) (step-is g)
-    ∙ sym (fused-own b64 fair64 64 (e .args .x) (e .args .y) (e .args .z) (ox e) (oy e) (oz e) (omega arith) (omega arith) (omega (arith, some, sum-is h)))
+    ∙ sum-rounds fits64 64 (e .args .x) (e .args .y) (e .args .z) (ox e) (oy e) (oz e) (omega arith) (omega arith) (sum g) (omega (arith, some))
 
 product-of-requires : tie.Need-product-of-requires
 product-of-requires c κs = (c .pre .0, c .pre .1)
@@ -158,19 +125,21 @@ align64-requires c κs = simp (toZ-ofZ, above-sfits c) (omega (arith, above-less
 
 join64-requires : tie.Need-join64-requires
 join64-requires c κs =
-    let e = i (o c) in
+    let e = i (c .before) in
+    let v = level c in
     let l = sum-fits b64 fair64 (e .args .x) (e .args .y) (e .args .z) (ox e) (oy e) (oz e) 64 (omega arith) (aboveBy b64 (e .args .x) (e .args .y) (e .args .z)) in
-    subst (λ v. v < 2 ^ 128) (sym (ap₂ _+_ (product-steps c) (third-steps c))) (below-pow {i = 119} {j = 128} (omega arith) l)
+    subst (λ t. t < 2 ^ 128) (sym (ap₂ _+_ (v .product-is) (v .third-is))) (below-pow {i = 119} {j = 128} (omega arith) l)
 
 nothing-requires : tie.Need-nothing-requires
 nothing-requires c κs = search needs
 
 step-at-requires : tie.Need-step-at-requires
 step-at-requires c κs =
-    let h = a (c .before .before .before) in
-    let e = i (o h) in
-    let p = n (o h) .before in
-    simp (toZ-ofZ, place-sfits p) (p .product-of .ensures .3, omega arith, omega (arith, down-is h, down-small fits64 (e .args .x) (e .args .y) (e .args .z) (ox e) (oy e) (oz e) 64))
+    let h = c .before .before .before .before in
+    let e = i (h .before) in
+    let p = n (h .before) .before in
+    simp (toZ-ofZ, place-sfits p)
+    (p .product-of .ensures .3, omega arith, omega (arith, level h .down-is, down-small fits64 (e .args .x) (e .args .y) (e .args .z) (ox e) (oy e) (oz e) 64))
 
 round-wide-requires : tie.Need-round-wide-requires
 round-wide-requires c κs = (fits64, simp (toZ-ofZ, step-sfits c) (step-less c))
