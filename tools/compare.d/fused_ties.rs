@@ -93,11 +93,11 @@ pub fn tail_of_the_product(format: Format, _: u64, random: &mut Random) -> [u64;
     let digit = 1 << random.below(format.fraction_bits.into());
     let tail = random.pick(&[1, 2, 3, digit]);
     let a = 1 + random.below(u64::from(format.fraction_bits + 1) / 2) as u32;
-    let (cube, whole) = (2 * format.fraction_bits, 1u64 << a);
+    let (square, whole) = (2 * format.fraction_bits, 1u64 << a);
     let (two, tie) = random.pick(&[
-        ([one + tail, one - tail], cube),
-        ([one + tail, one], cube),
-        ([one - tail, one], cube),
+        ([one + tail, one - tail], square),
+        ([one + tail, one], square),
+        ([one - tail, one], square),
         ([whole + 1, (whole << a) - whole + 1], 3 * a),
         ([whole - 1, (whole << a) + whole + 1], 3 * a),
     ]);

@@ -1,6 +1,6 @@
 //! The two known differences of fma from the standard: which operands they strike, and operands built to be struck.
 //!
-//! Random operands do not meet them. At 64 bits the product must be k 2^m + t, k odd, with at least 64 zeros between the
+//! Random operands do not meet them. At 64 bits the product must be k 2^m + t, k odd, with 63 or 64 zeros between the
 //! tie 2^m and the tail t; so products of that form are built from two factors. At 32 bits the product must be half a
 //! smallest unit but for a tail that 53 digits have no room for beside z.
 
@@ -106,7 +106,7 @@ pub fn is_lost(request: &Request) -> bool {
     }
 }
 
-/// 2^47 - 1 and 2^46 - 1 twice: the products of two significands that come nearest to half a unit.
+/// 2^47 - 1, the product of two significands that comes nearest to a power of two from below, and 2^47 - 2.
 const NEAREST: [([u64; 2], u32); 2] =
     [([10_610_063, 13_264_529], 47), ([(1 << 23) + 1, (1 << 24) - 2], 47)];
 
