@@ -31,6 +31,8 @@ pub use root::sqrt::sqrt32;
 pub use root::sqrt::sqrt32_status;
 pub use root::sqrt::sqrt64;
 pub use root::sqrt::sqrt64_status;
+use root::sqrt::status32;
+use root::sqrt::status64;
 pub use scale::scalbn::scalbn32;
 pub use scale::scalbn::scalbn64;
 pub use trunc::trunc32;
@@ -178,7 +180,7 @@ pub extern "C" fn pk_sqrt64(x: u64) -> u64
 pub extern "C" fn pk_sqrt64_status(x: u64) -> u32
     ensures { λ r. ⌜ r ≡ sqrtStatus b64 x ⌝ }
 {
-    sqrt64_status(x).status
+    status64(x)
 }
 
 #[no_mangle]
@@ -192,7 +194,7 @@ pub extern "C" fn pk_sqrt32(x: u32) -> u32
 pub extern "C" fn pk_sqrt32_status(x: u32) -> u32
     ensures { λ r. ⌜ r ≡ sqrtStatus b32 x ⌝ }
 {
-    sqrt32_status(x).status
+    status32(x)
 }
 
 #[no_mangle]

@@ -97,3 +97,16 @@ pub fn sqrt32_status(x: u32) -> FpResult32
         status: status_of(23, 8, x as u64),
     }
 }
+
+// The status alone, which needs no root.
+pub fn status64(x: u64) -> u32
+    ensures { λ r. ⌜ r ≡ sqrtStatus b64 x ⌝ }
+{
+    status_of(52, 11, x)
+}
+
+pub fn status32(x: u32) -> u32
+    ensures { λ r. ⌜ r ≡ sqrtStatus b32 x ⌝ }
+{
+    status_of(23, 8, x as u64)
+}
