@@ -132,19 +132,19 @@ fn is_tie(format: Format, request: &Request) -> bool {
 }
 
 #[test]
-fn each_fault_is_seen() {
+fn each_fault_is_met() {
     let mut tried = 0;
     for Fault { rows, what, spoil } in FAULTS.iter().chain(&OF_ROOTS).chain(&OF_FUSED) {
         for row in rows.iter().filter_map(|name| table::find(name)) {
             let operation = operation_of(row);
-            let is_seen = |request: &Request| {
+            let is_met = |request: &Request| {
                 let exact = Answer::exact(operation, request);
                 let mut answer = exact.clone();
                 spoil(operation.format, request, &mut answer);
-                !same(row.nans, operation, &answer, &exact)
+                answer != exact
             };
             let mut stream = requests(row, 1, 50_000).take(50_000);
-            assert!(stream.any(|(_, request)| is_seen(&request)), "{}: {what}", row.name);
+            assert!(stream.any(|(_, request)| is_met(&request)), "{}: {what}", row.name);
             tried += 1;
         }
     }
