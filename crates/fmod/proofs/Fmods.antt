@@ -19,7 +19,8 @@ use Rattle.ieee.proofs.Remainders.{fmod-rows}
 use Rattle.fields.specs.Width.{format, Fits}
 use Rattle.packing.proofs.Packs.{Apart, apart, pastOne, significand, past-one-small, exactly-below}
 use Rattle.sorting.specs.Rows.{noRemainder}
-use Rattle.sorting.proofs.Sorts.{no-remainder-none, Remains, remains, infinity-some}
+use Rattle.patterns.proofs.Numbers.{infinity-some}
+use Rattle.sorting.proofs.Sorts.{no-remainder-none, Remains, remains}
 
 -- a common factor of two numbers is one of the remainder
 scaled-left : (a b t : ℕ) → 0 < b → 0 < t → left (a * t) (b * t) ≡ (a % b) * t

@@ -48,9 +48,8 @@ module _ (f : Format) (x : ℕ) where
       (λ l. order (magnitude f x) 0 (λ h. none (omega arith)) (λ h. absurd (true≢false (sym e ∙ aside-not h l))))
 
   -- by words: w is the magnitude less one, and a zero less one is the largest word
-  pub aside-test : (i w t : ℕ) → i ≡ inf f → 0 < i → t ≡ top f → (w + 1) % 2 ^ 64 ≡ x % t → w < 2 ^ 64 → top f < 2 ^ 64 → leb (i - 1) w ≡ aside f x
-  aside-test i w t a p b e l g =
-      let m : (w + 1) % 2 ^ 64 ≡ magnitude f x = e ∙ ap (λ n. x % n) b in
+  pub aside-test : (i w m : ℕ) → i ≡ inf f → 0 < i → m ≡ magnitude f x → (w + 1) % 2 ^ 64 ≡ m → w < 2 ^ 64 → top f < 2 ^ 64 → leb (i - 1) w ≡ aside f x
+  aside-test i w m a p b e l g =
       order (i - 1) w
       (λ q. le-leb (i - 1) w q ∙ sym (order (magnitude f x) 0 (λ h. aside-zero (omega arith) (omega arith)) (λ h. aside-high (omega arith))))
       (λ q. lt-leb (i - 1) w q ∙ sym (aside-not (omega (arith, inf-below-top f)) (omega (arith, inf-below-top f))))

@@ -1,21 +1,20 @@
 -- Where the leading bit of a number stands: the zeros before a fraction, and how far the exponent goes. Assumes nothing.
-use Prim.Native.Nat.{ℕ, suc, _+_, _-_, _*_, _^_, _≤_, _<_}
+use Prim.Native.Nat.{ℕ, suc, _+_, _-_, _^_, _≤_, _<_}
 use mathlib.Core.Path.{_≡_}
 use native.Mathlib.Nat.{two-pow-succ}
 use native.Mathlib.Omega.{arith}
 use lib.Count.{leadingZeros, leading-top}
 use lib.Dec.{T}
-use lib.IntN.{ℤ, pos, negℤ}
+use lib.IntN.{pos, negℤ}
 use lib.Pow.{pow-add, pow-pos, pow-mono}
-use lib.Signed.{mag, leZ}
-use Rattle.algebra.proofs.Integers.{up, dn, subZ, negZ, oneZ, eqZ-fact, leZ-of, magZ}
+use lib.Signed.{leZ}
+use Rattle.algebra.proofs.Integers.{up, dn, subZ, negZ, oneZ, eqZ-fact, leZ-of}
 use Rattle.algebra.proofs.Powers.{top-unique}
-use Rattle.ieee.specs.Format.{Format, Fair, low}
+use Rattle.ieee.specs.Format.{Format, low}
 use Rattle.ieee.specs.Pattern.{magnitude}
 use Rattle.fields.specs.Width.{format, Fits}
-use Rattle.fields.proofs.Widths.{four-fields, fields-small}
 use Rattle.significands.specs.Significand.{expOf}
-use Rattle.significands.proofs.Significands.{Normal, normal-is}
+use Rattle.significands.proofs.Significands.{normal-is}
 use Rattle.norms.specs.Norm.{placeOf}
 
 -- ---- zeros before a fraction, in a word and in the format

@@ -3,7 +3,7 @@ ghost use mathlib.Core.Path.{_≡_};
 ghost use Prim.Native.Nat.{suc, _+_, _-_, _<_, _^_};
 ghost use lib.Count.{leadingZeros};
 ghost use lib.Dec.{T};
-ghost use lib.IntN.{pos, negℤ, _-ℤ_};
+ghost use lib.IntN.{pos, negℤ};
 ghost use lib.Signed.{leZ};
 ghost use Rattle.ieee.specs.Format.{inf, low};
 ghost use Rattle.ieee.specs.Pattern.{magnitude, minus};
@@ -14,6 +14,8 @@ use bits::pow;
 use fields::exponent_field;
 use fields::fraction_field;
 use fields::is_negative;
+use patterns::infinity;
+use patterns::magnitude_of;
 
 // sig times 2^exp, and below zero where neg is set. The leading bit of sig stands at the place frac.
 pub struct Norm {
@@ -27,9 +29,9 @@ pub fn is_zero_nan_inf(frac: u32, expo: u32, x: u64) -> bool
     requires { ⌜ Fits frac expo ⌝ }
     ensures { λ r. ⌜ r ≡ aside (format frac expo) x ⌝ }
 {
-    let top = pow(frac + expo);
-    let inf = top - pow(frac);
-    std::num::wrapping_sub_u64(x % top, 1) >= inf - 1
+    let inf = infinity(frac, expo);
+    let size = magnitude_of(frac, expo, x);
+    std::num::wrapping_sub_u64(size, 1) >= inf - 1
 }
 
 // How far a fraction goes up until its leading bit stands at the place frac: the zeros before it, less those that a word has above that place.

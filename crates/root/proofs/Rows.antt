@@ -4,7 +4,6 @@ use mathlib.Core.Path.{_≡_, ap, _∙_}
 use mathlib.Core.Bool.{Bool, true, false}
 use native.Mathlib.Nat.{mod-eq-of-lt}
 use native.Mathlib.Omega.{arith}
-use lib.Pow.{pow-pos, pow-mono}
 use borrow.Author.Tests.{le-leb, lt-leb}
 use Rattle.algebra.proofs.Products.{order}
 use Rattle.algebra.proofs.Quotients.{mod-is}
@@ -18,7 +17,7 @@ use Rattle.ieee.proofs.Patterns.{inf-below-top, kind-nan, kind-infinite, kind-f
 use Rattle.ieee.proofs.Sqrts.{SqrtRows, sqrt-rows}
 use Rattle.ieee.proofs.Units.{units-zero, units-lt}
 use Rattle.fields.specs.Width.{format, Fits}
-use Rattle.sorting.proofs.Sorts.{infinity-top}
+use Rattle.patterns.proofs.Numbers.{canonical-pattern}
 
 module _ (f : Format) (x : ℕ) where
   rows : SqrtRows f ties-to-even
@@ -82,9 +81,6 @@ module _ (f : Format) (x : ℕ) where
       .1
 
 -- ---- every answer is a pattern
-canonical-pattern : {p e : ℕ} → Fits p e → Pattern (format p e) (canonical (format p e))
-canonical-pattern {p} {e} w = omega (arith, infinity-top w, pow-mono {i = p - 1} {j = p} (omega arith), pow-pos p)
-
 pub sqrt-pattern : {p e : ℕ} → Fits p e → (x : ℕ) → Pattern (format p e) x → Pattern (format p e) (sqrtOf (format p e) x)
 unfolding sqrtOf sqrtIn sqrtBy
 sqrt-pattern {p} {e} w x h = go (minus (format p e) x) (kind (format p e) x)

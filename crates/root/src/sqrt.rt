@@ -8,6 +8,8 @@ ghost use Rattle.root.specs.Classes.{setAside};
 use bits::pow;
 use env::FpResult32;
 use env::FpResult64;
+use patterns::infinity;
+use patterns::nan;
 use rooting::rooted;
 
 // Whether x is a zero, subnormal, infinite, a NaN or negative. All other patterns run from that of the smallest normal number up to infinity's: less the
@@ -17,7 +19,7 @@ fn set_aside(frac: u32, expo: u32, x: u64) -> bool
     ensures { λ r. ⌜ r ≡ setAside (format frac expo) x ⌝ }
 {
     let least = pow(frac);
-    let inf = pow(frac + expo) - least;
+    let inf = infinity(frac, expo);
     std::num::wrapping_sub_u64(x, least) >= inf - least
 }
 
@@ -28,7 +30,7 @@ fn by_class(frac: u32, expo: u32, x: u64) -> u64
     ensures { λ r. ⌜ r ≡ sqrtOf (format frac expo) x ⌝ }
 {
     let top = pow(frac + expo);
-    let inf = top - pow(frac);
+    let inf = infinity(frac, expo);
     if x % top == 0 {
         return x;
     }
@@ -36,7 +38,7 @@ fn by_class(frac: u32, expo: u32, x: u64) -> u64
         return x;
     }
     if x > inf {
-        return inf + pow(frac - 1);
+        return nan(frac, expo);
     }
     rooted(frac, expo, x)
 }
@@ -58,7 +60,7 @@ fn status_of(frac: u32, expo: u32, x: u64) -> u32
     ensures { λ r. ⌜ r ≡ sqrtStatus (format frac expo) x ⌝ }
 {
     let top = pow(frac + expo);
-    let inf = top - pow(frac);
+    let inf = infinity(frac, expo);
     if x <= inf {
         return env::OK;
     }

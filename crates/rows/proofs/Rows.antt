@@ -16,7 +16,7 @@ use Rattle.ieee.proofs.Fmas.{InfiniteProduct, of-both, of-first, of-second, pro
 use Rattle.fields.specs.Width.{format, Fits}
 use Rattle.norms.proofs.Asides.{set-aside}
 use Rattle.rows.specs.Special.{Special}
-use Rattle.sorting.proofs.Sorts.{canonical-pattern}
+use Rattle.patterns.proofs.Numbers.{canonical-pattern}
 
 -- ---- kinds, by magnitudes
 zero-kind : (f : Format) (x : ℕ) → 0 < inf f → magnitude f x ≡ 0 → kind f x ≡ finite 0

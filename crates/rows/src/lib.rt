@@ -2,38 +2,16 @@
 ghost use mathlib.Core.Path.{_≡_};
 ghost use mathlib.Core.Logic.{_⊎_};
 ghost use Prim.Native.Nat.{_≤_, _<_};
-ghost use Rattle.ieee.specs.Format.{inf, canonical};
+ghost use Rattle.ieee.specs.Format.{inf};
 ghost use Rattle.ieee.specs.Pattern.{Pattern, magnitude};
 ghost use Rattle.ieee.specs.Fma.{fmaOf};
 ghost use Rattle.fields.specs.Width.{format, Fits};
 ghost use Rattle.rows.specs.Special.{Special};
-use bits::pow;
 use fields::is_negative;
 use fields::with_sign;
-
-// The pattern of infinity.
-pub fn infinity(frac: u32, expo: u32) -> u64
-    requires { ⌜ Fits frac expo ⌝ }
-    ensures { λ r. ⌜ r ≡ inf (format frac expo) ⌝ }
-{
-    pow(frac + expo) - pow(frac)
-}
-
-// The canonical NaN.
-pub fn nan(frac: u32, expo: u32) -> u64
-    requires { ⌜ Fits frac expo ⌝ }
-    ensures { λ r. ⌜ r ≡ canonical (format frac expo) ⌝ }
-{
-    infinity(frac, expo) + pow(frac - 1)
-}
-
-// A pattern without its sign.
-pub fn magnitude_of(frac: u32, expo: u32, x: u64) -> u64
-    requires { ⌜ Fits frac expo ⌝ }
-    ensures { λ r. ⌜ r ≡ magnitude (format frac expo) x ⌝ }
-{
-    x % pow(frac + expo)
-}
+use patterns::infinity;
+use patterns::magnitude_of;
+use patterns::nan;
 
 // Where x or y is infinite: a zero has no product with it, and an infinite z of the other sign no sum.
 pub fn of_infinite_product(frac: u32, expo: u32, x: u64, y: u64, z: u64) -> u64

@@ -4,16 +4,14 @@ use mathlib.Core.Path.{_≡_, refl, sym, ap, _∙_}
 use mathlib.Core.Bool.{true, false, true≢false}
 use native.Mathlib.Omega.{arith}
 use lib.Dec.{leb}
-use lib.Pow.{pow-add, pow-pos, pow-mono}
 use borrow.Author.Tests.{le-leb, lt-leb}
-use Rattle.algebra.proofs.Products.{order, diff, times-le}
-use Rattle.ieee.specs.Format.{Format, top, inf, units, canonical}
-use Rattle.ieee.specs.Pattern.{Pattern, magnitude, Kind, nan, infinite, finite, kind}
+use Rattle.algebra.proofs.Products.{order}
+use Rattle.ieee.specs.Format.{Format, top, inf, units}
+use Rattle.ieee.specs.Pattern.{magnitude, Kind, nan, infinite, finite, kind}
 use Rattle.ieee.specs.Fmod.{divide}
 use Rattle.ieee.proofs.Units.{units-zero, units-lt}
 use Rattle.ieee.proofs.Remainders.{divide-by-nan, divide-by-zero}
 use Rattle.ieee.proofs.Patterns.{inf-below-top, kind-nan, kind-infinite, kind-finite}
-use Rattle.fields.specs.Width.{format, Fits}
 use Rattle.sorting.specs.Rows.{noRemainder}
 
 -- ---- by magnitudes
@@ -60,30 +58,11 @@ module _ (f : Format) (some : 0 < inf f) (x y : ℕ) where
       (λ b. absurd (true≢false (sym (y-nan b) ∙ e)))))
 
   -- by words: a zero less one wraps to the largest word w, so that one comparison finds zeros and NaNs
-  pub y-test : (i w t : ℕ) → i ≡ inf f → t ≡ top f → (w + 1) % 2 ^ 64 ≡ y % t → w < 2 ^ 64 → top f < 2 ^ 64 → magnitude f x < inf f → leb i w ≡ noRemainder f x y
-  y-test i w t a b e l g h =
-      let m : (w + 1) % 2 ^ 64 ≡ magnitude f y = e ∙ ap (λ n. y % n) b in
+  pub y-test : (i w m : ℕ) → i ≡ inf f → m ≡ magnitude f y → (w + 1) % 2 ^ 64 ≡ m → w < 2 ^ 64 → top f < 2 ^ 64 → magnitude f x < inf f → leb i w ≡ noRemainder f x y
+  y-test i w m a b e l g h =
       order i w
       (λ p. le-leb i w p ∙ sym (order (magnitude f y) 0 (λ q. y-zero (omega arith)) (λ q. y-nan (omega arith))))
       (λ p. lt-leb i w p ∙ sym (both-with h (omega (arith, inf-below-top f)) (omega (arith, inf-below-top f))))
-
--- ---- the numbers of the test, in a word
-module _ {p e : ℕ} (w : Fits p e) where
-  -- infinity's pattern and one more exponent field are the sign bit
-  pub infinity-top : inf (format p e) + 2 ^ p ≡ 2 ^ (p + e)
-  infinity-top = omega (arith, diff (2 ^ p) (pow-pos e), pow-add 2 p e)
-
-  pub infinity-some : 0 < inf (format p e)
-  infinity-some =
-      let four = pow-mono {i = 2} {j = e} (w .fair .expo-two) in
-      let l : 1 ≤ 2 ^ e - 1 = omega arith in
-      omega (arith, times-le (2 ^ p) l, pow-pos p)
-
-  pub canonical-pattern : Pattern (format p e) (canonical (format p e))
-  canonical-pattern = omega (arith, infinity-top, pow-mono {i = p - 1} {j = p} (omega arith), pow-pos p)
-
-  pub top-room : 2 ^ (p + e) < 2 ^ 64
-  top-room = omega (arith, pow-mono {i = p + e} {j = 63} (w .word))
 
 -- ---- by kinds: the answer of any remainder where there is none
 pub divide-none : {A : Type 0} (none same : A) (r : ℕ → ℕ → A) (k l : Kind) → divide true false (λ u v. false) k l ≡ true → divide none same r k l ≡ none

@@ -2,17 +2,18 @@
 ghost use mathlib.Core.Path.{_≡_};
 ghost use Rattle.fields.specs.Width.{format, Fits};
 ghost use Rattle.sorting.specs.Rows.{noRemainder};
-use bits::pow;
+use patterns::infinity;
+use patterns::magnitude_of;
 
 // Whether there is no remainder: x infinite or a NaN, y zero or a NaN. A zero less one wraps, to the far side of infinity, where the NaNs are.
 pub fn no_remainder(frac: u32, expo: u32, x: u64, y: u64) -> bool
     requires { ⌜ Fits frac expo ⌝ }
     ensures { λ r. ⌜ r ≡ noRemainder (format frac expo) x y ⌝ }
 {
-    let top = pow(frac + expo);
-    let inf = top - pow(frac);
-    if x % top >= inf {
+    let inf = infinity(frac, expo);
+    if magnitude_of(frac, expo, x) >= inf {
         return true;
     }
-    std::num::wrapping_sub_u64(y % top, 1) >= inf
+    let size = magnitude_of(frac, expo, y);
+    std::num::wrapping_sub_u64(size, 1) >= inf
 }

@@ -1,7 +1,7 @@
 -- What is set aside has a row (rows: Rows), a zero z leaves the product, and all else is a sum of numbers that are not zero. Assumes nothing.
 use mathlib.Core.Path.{_≡_, sym, _∙_}
 use mathlib.Core.Logic.{inl, inr}
-use mathlib.Core.Bool.{true, false}
+use mathlib.Core.Bool.{false}
 use native.Mathlib.Omega.{arith}
 use Rattle.ieee.specs.Format.{b64}
 use Rattle.fields.proofs.Widths.{fits64}

@@ -6,7 +6,8 @@ use borrow.Author.Needs.{needs}
 use Rattle.ieee.specs.Format.{Format, inf}
 use Rattle.ieee.specs.Pattern.{magnitude}
 use Rattle.fields.specs.Width.{format}
-use Rattle.sorting.proofs.Sorts.{Remains, remains, infinity-top, infinity-some}
+use Rattle.patterns.proofs.Numbers.{infinity-top, infinity-some}
+use Rattle.sorting.proofs.Sorts.{Remains, remains}
 use Rattle.remquo.proofs.Kept.{by-infinite, y-below, of-zero}
 use Rattle.remquo.proofs.of_finite.Statement.{statement}
 use Rattle.remquo.proofs.of_finite.Tie as tie

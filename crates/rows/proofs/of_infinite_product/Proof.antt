@@ -1,7 +1,7 @@
 -- The rows of an infinite factor (Rows); the two signs are alike or not by the definition's own test. Assumes nothing.
-use Prim.Native.Nat.{ℕ, _<_}
+use Prim.Native.Nat.{_<_}
 use mathlib.Core.Path.{_≡_, sym, ap, ap₂, _∙_}
-use mathlib.Core.Bool.{Bool, true, false, not, Bool·beq}
+use mathlib.Core.Bool.{not}
 use native.Mathlib.Omega.{arith}
 use borrow.Author.Needs.{needs}
 use Rattle.ieee.specs.Format.{Format, inf}
@@ -9,7 +9,7 @@ use Rattle.ieee.specs.Pattern.{magnitude, signed, unlike}
 use Rattle.ieee.proofs.Patterns.{inf-below-top}
 use Rattle.ieee.proofs.Fmas.{InfiniteProduct, against, productSign}
 use Rattle.fields.specs.Width.{format}
-use Rattle.sorting.proofs.Sorts.{infinity-some}
+use Rattle.patterns.proofs.Numbers.{infinity-some}
 use Rattle.rows.proofs.Rows.{zero-x, zero-y, infinite-product, opposite, decides}
 use Rattle.rows.proofs.of_infinite_product.Statement.{statement}
 use Rattle.rows.proofs.of_infinite_product.Tie as tie

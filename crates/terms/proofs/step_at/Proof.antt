@@ -1,5 +1,4 @@
 -- No step of the sum wraps: all of its parts are small (algebra: Integers). Assumes nothing.
-use Prim.Native.Nat.{_^_}
 use mathlib.Core.Path.{_≡_, refl}
 use native.Mathlib.Omega.{arith}
 use borrow.Author.Needs.{needs}

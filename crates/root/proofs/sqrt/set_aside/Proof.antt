@@ -1,6 +1,5 @@
 -- One comparison finds the five classes (Asides). Assumes nothing.
-use Prim.Native.Nat.{_-_, _*_, _^_, _≤_}
-use mathlib.Core.Path.{_≡_}
+use Prim.Native.Nat.{_^_, _≤_}
 use native.Mathlib.Omega.{arith}
 use borrow.Author.Needs.{needs}
 use lib.Pow.{pow-add}
@@ -8,49 +7,39 @@ use Rattle.algebra.proofs.Products.{times-le}
 use Rattle.ieee.specs.Format.{Format, inf}
 use Rattle.fields.specs.Width.{format}
 use Rattle.fields.proofs.Widths.{four-fields}
-use Rattle.sorting.proofs.Sorts.{infinity-top, top-room}
+use Rattle.patterns.proofs.Numbers.{infinity-top, top-room}
 use Rattle.root.proofs.Asides.{aside-test}
 use Rattle.root.proofs.sqrt.set_aside.Statement.{statement}
 use Rattle.root.proofs.sqrt.set_aside.Tie as tie
 
-module _ (c : tie.After-pow2) where
+module _ (c : tie.After-infinity) where
   abbrev s : tie.Start
   s = c .before .before
 
   abbrev f : Format
   f = format (s .args .frac) (s .args .expo)
 
-  infinity : c .pow2 .result - c .before .pow .result ≡ inf f
-  infinity = omega (arith, c .before .pow .ensures, c .pow2 .ensures, infinity-top (s .pre))
-
   -- there are normal numbers
-  least-below : 2 * c .before .pow .result ≤ c .pow2 .result
-  least-below =
-      omega (arith, c .before .pow .ensures, c .pow2 .ensures, pow-add 2 (s .args .frac) (s .args .expo), times-le (2 ^ s .args .frac) (four-fields (s .pre)))
+  least-below : 2 ^ s .args .frac ≤ inf f
+  least-below = omega (arith, infinity-top (s .pre), pow-add 2 (s .args .frac) (s .args .expo), times-le (2 ^ s .args .frac) (four-fields (s .pre)))
 
 returns : tie.Need-returns
 returns c =
     let o = c .before in
     let w = c .wrapping-sub-u64 in
-    aside-test (f o) (s o .args .x) (o .before .pow .result) _ (w .result) (o .before .pow .ensures) (infinity o) (w .ensures) (w .ok) (top-room (s o .pre))
-
-sub-inf : tie.Need-sub-inf
-sub-inf c = omega (arith, least-below c)
+    aside-test (f o) (s o .args .x) (o .before .pow .result) _ (w .result) (o .before .pow .ensures) (o .infinity .ensures) (w .ensures) (w .ok) (top-room (s o .pre))
 
 sub-result : tie.Need-sub-result
-sub-result c = omega (arith, least-below (c .before))
+sub-result c = let o = c .before in omega (arith, least-below o, o .before .pow .ensures, o .infinity .ensures)
 
 pow-requires : tie.Need-pow-requires
 pow-requires c κs = search needs
 
-add-pow : tie.Need-add-pow
-add-pow c = search needs
-
-pow-requires-2 : tie.Need-pow-requires-2
-pow-requires-2 c κs = search needs
+infinity-requires : tie.Need-infinity-requires
+infinity-requires c κs = search needs
 
 wrapping-sub-u64-requires : tie.Need-wrapping-sub-u64-requires
 wrapping-sub-u64-requires c κs = search needs
 
 pub set-aside-spec : {M : Type 1} → statement M
-set-aside-spec = tie.close (tie.spec pow-requires add-pow pow-requires-2 sub-inf wrapping-sub-u64-requires sub-result returns)
+set-aside-spec = tie.close (tie.spec pow-requires infinity-requires wrapping-sub-u64-requires sub-result returns)

@@ -4,8 +4,8 @@ use mathlib.Core.Path.{ap}
 use native.Mathlib.Omega.{arith}
 use borrow.Author.Needs.{needs}
 use lib.Pow.{pow-pos}
-use Rattle.rows.proofs.magnitude_of.Statement.{statement}
-use Rattle.rows.proofs.magnitude_of.Tie as tie
+use Rattle.patterns.proofs.magnitude_of.Statement.{statement}
+use Rattle.patterns.proofs.magnitude_of.Tie as tie
 
 returns : tie.Need-returns
 returns c = ap (λ t. c .before .args .x % t) (c .pow .ensures)

@@ -1,9 +1,9 @@
--- Infinity's pattern and one more exponent field are the sign bit (sorting: Sorts). Assumes nothing.
+-- Infinity's pattern and one more exponent field are the sign bit (Numbers). Assumes nothing.
 use native.Mathlib.Omega.{arith}
 use borrow.Author.Needs.{needs}
-use Rattle.sorting.proofs.Sorts.{infinity-top}
-use Rattle.rows.proofs.infinity.Statement.{statement}
-use Rattle.rows.proofs.infinity.Tie as tie
+use Rattle.patterns.proofs.Numbers.{infinity-top}
+use Rattle.patterns.proofs.infinity.Statement.{statement}
+use Rattle.patterns.proofs.infinity.Tie as tie
 
 returns : tie.Need-returns
 returns c = omega (arith, c .before .pow .ensures, c .pow2 .ensures, infinity-top (c .before .before .pre))

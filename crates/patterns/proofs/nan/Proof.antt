@@ -1,11 +1,11 @@
--- The sum is the definition's, and stays below the sign bit (sorting: Sorts). Assumes nothing.
+-- The sum is the definition's, and stays below the sign bit (Numbers). Assumes nothing.
 use Prim.Native.Nat.{_-_}
 use native.Mathlib.Omega.{arith}
 use borrow.Author.Needs.{needs}
 use lib.Pow.{pow-mono}
-use Rattle.sorting.proofs.Sorts.{infinity-top, top-room}
-use Rattle.rows.proofs.nan.Statement.{statement}
-use Rattle.rows.proofs.nan.Tie as tie
+use Rattle.patterns.proofs.Numbers.{infinity-top, top-room}
+use Rattle.patterns.proofs.nan.Statement.{statement}
+use Rattle.patterns.proofs.nan.Tie as tie
 
 returns : tie.Need-returns
 returns c = search needs
