@@ -1,0 +1,1 @@
+// The promise, theorem by theorem, in reading order.
