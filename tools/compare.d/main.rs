@@ -5,6 +5,7 @@
 #![cfg_attr(not(test), no_main)]
 #![cfg_attr(test, allow(dead_code))]
 
+mod closing;
 #[cfg(test)]
 mod faults;
 #[cfg(test)]
@@ -69,7 +70,8 @@ struct Words {
     task: String,
     run: Run,
     count: u64,
-    rows: Option<String>,
+    /// The file of records, to which a run adds its own.
+    records: Option<String>,
     chosen: Vec<&'static table::Row>,
 }
 
@@ -77,9 +79,9 @@ fn read_words(words: &[String]) -> Result<Words, String> {
     let (task, mut rest) = words.split_first().ok_or("expected a task")?;
     let mut read = Words {
         task: task.clone(),
-        run: Run { seed: 1, on: String::new(), spoiled: Spoiled::Nothing },
+        run: Run { seed: 1, on: String::new(), build: String::new(), spoiled: Spoiled::Nothing },
         count: 1,
-        rows: None,
+        records: None,
         chosen: Vec::new(),
     };
     while let [option, value, more @ ..] = rest {
@@ -88,7 +90,8 @@ fn read_words(words: &[String]) -> Result<Words, String> {
             "--seed" => read.run.seed = number()?,
             "--count" => read.count = number()?,
             "--on" => read.run.on = value.clone(),
-            "--rows" => read.rows = Some(value.clone()),
+            "--build" => read.run.build = value.clone(),
+            "--records" => read.records = Some(value.clone()),
             "--spoil" => read.run.spoiled = Spoiled::read(value)?,
             _ => break,
         }
@@ -107,6 +110,11 @@ fn read_words(words: &[String]) -> Result<Words, String> {
 fn run_words(words: &[String]) -> Result<i32, String> {
     kinds::check_entries(&kinds::KINDS)?;
     let words = read_words(words)?;
+    if let ("closing" | "markdown", Some(path)) = (words.task.as_str(), &words.records) {
+        let table = if words.task == "closing" { closing::plain } else { closing::markdown };
+        print!("{}", table(&record::read(path)?));
+        return Ok(0);
+    }
     run::keep_panics();
     let mut tallies = Vec::new();
     for row in &words.chosen {
@@ -117,8 +125,8 @@ fn run_words(words: &[String]) -> Result<i32, String> {
             task => return Err(format!("no task '{task}'")),
         }
     }
-    if let Some(path) = &words.rows {
-        record::append_rows(path, &words.run, &tallies)?;
+    if let Some(path) = &words.records {
+        record::append(path, &words.run, &tallies)?;
     }
     Ok(if tallies.iter().all(|tally| tally.is_clean()) { 0 } else { 1 })
 }

@@ -44,8 +44,9 @@ impl Spoiled {
 /// What holds for every operation of one run.
 pub struct Run {
     pub seed: u64,
-    /// What ours runs on, for the table.
+    /// What ours runs on, and how it was built, for the tables.
     pub on: String,
+    pub build: String,
     pub spoiled: Spoiled,
 }
 
@@ -68,7 +69,8 @@ impl Run {
     /// The boundary cases of the plain program, then operands drawn quickly.
     pub fn drawn(&self, row: &Row, count: u64) -> Tally {
         let operation = operation_of(row);
-        let mut tally = Tally::new(operation, count.to_string(), self.seed.to_string());
+        let mut tally =
+            Tally::new(operation, row.nans.text(), count.to_string(), self.seed.to_string());
         let mut progress = Progress::new();
         tally.kinds = vec![0; kind_names(row).count()];
         for (turn, (kind, request)) in (0..count).zip(requests(row, self.seed, count)) {
@@ -94,7 +96,12 @@ impl Run {
         if operation.format.width != 32 || operation.operand_kinds() != [Kind::Word] {
             return Err(format!("{} is not a function of one 32-bit operand", row.name));
         }
-        let mut tally = Tally::new(operation, "all 4294967296".to_string(), "none".to_string());
+        let mut tally = Tally::new(
+            operation,
+            row.nans.text(),
+            "all 4294967296".to_string(),
+            "none".to_string(),
+        );
         let mut progress = Progress::new();
         for block in 0..1u64 << 12 {
             for low in 0..1u64 << 20 {
@@ -175,7 +182,7 @@ pub fn same(nans: Nans, operation: &Operation, ours: &Answer, crates: &Answer) -
 }
 
 /// The later text of the crate has other statuses, so they count only where the given text decides them.
-fn leaves_status_out(operation: &Operation) -> bool {
+pub fn leaves_status_out(operation: &Operation) -> bool {
     !oracle::api::STATUSES && operation.answer_kinds().contains(&Kind::Status)
 }
 
@@ -226,6 +233,9 @@ mod tests {
 
     const NAN: u64 = 0x7ff8000000000000;
 
+    fn run_spoiled(spoiled: Spoiled) -> Run {
+        Run { seed: 1, on: String::new(), build: String::new(), spoiled }
+    }
     fn counts_as_same(nans: Nans, ours: u64, crates: u64) -> bool {
         same(
             nans,
@@ -256,7 +266,7 @@ mod tests {
     }
     #[test]
     fn every_kind_of_every_row_is_counted() {
-        let run = Run { seed: 1, on: String::new(), spoiled: Spoiled::Nothing };
+        let run = run_spoiled(Spoiled::Nothing);
         for row in &crate::table::ROWS {
             let tally = run.drawn(row, 3000);
             assert!(tally.is_clean() && tally.kinds.iter().all(|count| *count > 0));
@@ -268,7 +278,7 @@ mod tests {
     #[test]
     fn a_spoiled_side_is_seen_in_every_row() {
         for spoiled in [Spoiled::Ours, Spoiled::Crate] {
-            let run = Run { seed: 1, on: String::new(), spoiled };
+            let run = run_spoiled(spoiled);
             for row in &crate::table::ROWS {
                 assert_eq!(run.drawn(row, 5000).unexplained, 5, "{}", row.name);
             }

@@ -18,6 +18,19 @@ pub enum Nans {
     Equal,
     /// They are compared as all other answers are.
     BitForBit,
+    /// The words are plain numbers, and none of them is a NaN.
+    Plain,
+}
+
+impl Nans {
+    /// The same for a reader of the closing table.
+    pub fn text(self) -> &'static str {
+        match self {
+            Nans::Equal => "any two equal, ours canonical",
+            Nans::BitForBit => "bit for bit",
+            Nans::Plain => "none: plain numbers",
+        }
+    }
 }
 
 /// Whose answers are taken for right.
@@ -145,7 +158,7 @@ pub static ROWS: [Row; 15] = [
     },
     Row {
         name: "reduce64",
-        nans: Nans::BitForBit,
+        nans: Nans::Plain,
         judge: Judge::Crate,
         draws: &FOR_REDUCTIONS,
         ours: |r| unsafe {
@@ -158,7 +171,7 @@ pub static ROWS: [Row; 15] = [
     },
     Row {
         name: "reduce32",
-        nans: Nans::BitForBit,
+        nans: Nans::Plain,
         judge: Judge::Crate,
         draws: &FOR_REDUCTIONS,
         ours: |r| unsafe {

@@ -13,6 +13,8 @@ pub fn kind_names(row: &Row) -> impl Iterator<Item = &'static str> {
 /// What one operation's run has found.
 pub struct Tally {
     pub operation: &'static Operation,
+    /// What becomes of NaNs, in words.
+    pub nans: &'static str,
     /// How many operands, and from what seed, if any.
     pub operands: String,
     pub seed: String,
@@ -29,9 +31,15 @@ pub struct Tally {
 }
 
 impl Tally {
-    pub fn new(operation: &'static Operation, operands: String, seed: String) -> Tally {
+    pub fn new(
+        operation: &'static Operation,
+        nans: &'static str,
+        operands: String,
+        seed: String,
+    ) -> Tally {
         Tally {
             operation,
+            nans,
             operands,
             seed,
             kinds: Vec::new(),
