@@ -4,6 +4,7 @@ mod answers;
 mod measure;
 mod operands;
 mod operations;
+mod picture;
 #[path = "../plain/random.rs"]
 #[allow(dead_code)]
 mod random;
@@ -19,10 +20,7 @@ use std::time::{Duration, Instant};
 const SILENCE: Duration = Duration::from_secs(3);
 
 fn main() {
-    let mut run = asked(std::env::args().skip(1)).unwrap_or_else(|error| {
-        eprintln!("bench: error: {error}");
-        std::process::exit(2)
-    });
+    let mut run = asked(std::env::args().skip(1)).unwrap_or_else(|error| fail(&error));
     let mut said = Instant::now();
     for (done, operation) in OPERATIONS.iter().enumerate() {
         if said.elapsed() > SILENCE {
@@ -32,9 +30,17 @@ fn main() {
         run.operation = operation.name;
         (operation.measure)(&mut run);
     }
+    if let Some(path) = &run.picture {
+        std::fs::write(path, picture::svg(&run.rows, &run.captions)).unwrap_or_else(|error| fail(&format!("cannot write {path}: {error}")));
+    }
     let text = if run.operands_alone { run.requests } else { report::text(&run) };
     // Whoever reads this may have had enough before the end.
     let _ = std::io::stdout().write_all(text.as_bytes());
+}
+
+fn fail(error: &str) -> ! {
+    eprintln!("bench: error: {error}");
+    std::process::exit(2)
 }
 
 fn asked(mut words: impl Iterator<Item = String>) -> Result<Run, String> {
@@ -43,16 +49,21 @@ fn asked(mut words: impl Iterator<Item = String>) -> Result<Run, String> {
         passes: 101,
         chosen: Vec::new(),
         operands_alone: false,
+        picture: None,
+        captions: Vec::new(),
         operation: "",
         requests: String::new(),
         rows: Vec::new(),
         differences: Vec::new(),
     };
     while let Some(word) = words.next() {
-        let mut number = || words.next().and_then(|text| text.parse().ok()).ok_or(format!("{word} needs a number"));
+        let mut value = || words.next().ok_or(format!("{word} needs a value"));
+        let number = |text: String| text.parse().map_err(|_| format!("{text} is not a number"));
         match word.as_str() {
-            "--seed" => run.seed = number()?,
-            "--passes" => run.passes = number()? as usize,
+            "--seed" => run.seed = number(value()?)?,
+            "--passes" => run.passes = number(value()?)? as usize,
+            "--picture" => run.picture = Some(value()?),
+            "--caption" => run.captions.push(value()?),
             "--operands" => run.operands_alone = true,
             _ => run.chosen.push(word),
         }

@@ -36,7 +36,7 @@ fn cells(row: &Row) -> [String; COLUMNS] {
         figure(ours.median),
         figure(theirs.least),
         figure(theirs.median),
-        figure(ours.least / theirs.least),
+        row.ratio_text(),
         figure(ours.median / theirs.median),
     ]
 }

@@ -12,6 +12,17 @@ pub struct Row {
     pub theirs: Figures,
 }
 
+impl Row {
+    /// Of the leasts, ours to the crate's.
+    pub fn ratio(&self) -> f64 {
+        self.ours.least / self.theirs.least
+    }
+    /// The same as the table and the picture write it.
+    pub fn ratio_text(&self) -> String {
+        format!("{:.2}", self.ratio())
+    }
+}
+
 pub struct Run {
     pub seed: u64,
     pub passes: usize,
@@ -19,6 +30,9 @@ pub struct Run {
     pub chosen: Vec<String>,
     /// Whether the operands are to be written, and nothing is measured.
     pub operands_alone: bool,
+    /// Where a picture is to be written, if it is, and what stands above it.
+    pub picture: Option<String>,
+    pub captions: Vec<String>,
     pub operation: &'static str,
     pub requests: String,
     pub rows: Vec<Row>,
