@@ -26,6 +26,7 @@ fetch() { # USE FOLDER: every package of the use, unpacked into the folder
 
 download() { # URL FILE
     seconds=${PASKEROTIM_SECONDS:-300}
+    case $seconds in 0* | *[!0-9]*) fail 2 "PASKEROTIM_SECONDS needs a number of seconds from 1 on, not '$seconds'" ;; esac
     if command -v curl >/dev/null 2>&1; then
         curl -fsSL --connect-timeout 15 --max-time "$seconds" -o "$2" "$1"
     elif command -v wget >/dev/null 2>&1; then

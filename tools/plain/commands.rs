@@ -98,7 +98,10 @@ pub fn check(path: &str, out: &mut dyn Write) -> Result<bool, Trouble> {
         (counts.claims.iter().sum(), counts.disagreements.iter().sum());
     let malformed = counts.malformed;
     writeln!(out, "total {claims} claims, {found} disagreements, {malformed} malformed lines")?;
-    Ok(found == 0 && malformed == 0)
+    if claims == 0 {
+        writeln!(out, "there was no claim to check")?;
+    }
+    Ok(found == 0 && malformed == 0 && claims > 0)
 }
 
 fn check_line(

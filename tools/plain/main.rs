@@ -48,7 +48,8 @@ check FILE|-
 Checks every claim of FILE (- is standard input) and prints each disagreement
 with its line number and both answers, then counts for each operation. A
 request without a claim counts as malformed. Answers are compared bit for bit.
-Exit status: 0, or 1 for a disagreement or malformed line, or 2 for bad usage.
+Exit status: 0 if every claim is right and there is one, or 1 for a
+disagreement, a malformed line or no claim at all, or 2 for bad usage.
 ";
 
 const CASES_HELP: &str = "\
@@ -131,6 +132,9 @@ fn on_file(command: &str, rest: &[&str]) -> Ending {
     let [path] = rest else {
         return Ending::Usage(format!("{command} takes one FILE, or - for standard input"));
     };
+    if path.starts_with('-') && *path != "-" {
+        return Ending::Usage(format!("{command}: no option \"{path}\""));
+    }
     with_output(|out| match command {
         "answer" => commands::answer(path, out),
         _ => commands::check(path, out),
@@ -166,22 +170,27 @@ fn read_options(
 ) -> Result<(u64, usize, Vec<&'static Operation>), String> {
     let (mut seed, mut count, mut chosen) = (None, None, None);
     for pair in rest.chunks(2) {
+        let known = matches!(pair[0], "--seed" | "--count")
+            || pair[0] == "--operation" && command == "cases";
+        if !known {
+            return Err(format!("{command}: no option \"{}\"", pair[0]));
+        }
         let [option, value] = pair else {
             return Err(format!("{command}: {} needs a value", pair[0]));
         };
         let number = || {
-            let known = value.bytes().all(|byte| byte.is_ascii_digit());
-            let read = value.parse::<u64>().ok().filter(|_| known);
-            read.ok_or_else(|| format!("{option} needs a decimal number, not \"{value}\""))
+            let digits = value.bytes().all(|byte| byte.is_ascii_digit());
+            let read = value.parse::<u64>().ok().filter(|_| digits);
+            let wrong = || format!("{option} needs a decimal number below 2^64, not \"{value}\"");
+            read.ok_or_else(wrong)
         };
         match *option {
             "--seed" => seed = Some(number()?),
             "--count" => count = Some(number()?),
-            "--operation" if command == "cases" => {
+            _ => {
                 let found = operations::find(value);
                 chosen = Some(found.ok_or_else(|| format!("no operation \"{value}\""))?);
             }
-            _ => return Err(format!("{command}: no option \"{option}\"")),
         }
     }
     let seed = seed.ok_or_else(|| format!("{command} needs --seed N"))?;
