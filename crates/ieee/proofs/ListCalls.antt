@@ -61,14 +61,14 @@ list-refusals-same {i = i} {j} p q = go (p .only)
     go (inr (inr (inr h))) = same-at (p .three) (q .three) h
 
 -- ---- the tests and what they tell
-in-range : (op : ℕ) → 1 ≤ op → op ≤ 3 → Known op
+pub in-range : (op : ℕ) → 1 ≤ op → op ≤ 3 → Known op
 in-range zero l h = absurd (omega arith)
 in-range (suc zero) l h = inl refl
 in-range (suc (suc zero)) l h = inr (inl refl)
 in-range (suc (suc (suc zero))) l h = inr (inr refl)
 in-range (suc (suc (suc (suc k)))) l h = absurd (omega arith)
 
-range-of : {op : ℕ} → Known op → (1 ≤ op) × (op ≤ 3)
+pub range-of : {op : ℕ} → Known op → (1 ≤ op) × (op ≤ 3)
 range-of (inl e) = omega arith
 range-of (inr (inl e)) = omega arith
 range-of (inr (inr e)) = omega arith
@@ -90,7 +90,7 @@ module _ (n op : ℕ) (xs ys : List ℕ) where
   unlike : Tells (SameLength xs ys → ⊥) (SameLength xs ys) (not (eqb (length xs) (length ys)))
   unlike = not-tells (by-reads (eqb-reads (length xs) (length ys)) Iff·rfl)
 
-  given-refusals : ListRefusals n op xs ys (given (listRefusals n op xs ys))
+  pub given-refusals : ListRefusals n op xs ys (given (listRefusals n op xs ys))
   given-refusals = record { one = one; two = two; three = three; none = none; only = only }
     where
       k : ℕ

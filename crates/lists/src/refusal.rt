@@ -1,0 +1,26 @@
+// What the list call refuses, at every width.
+ghost use mathlib.Core.Path.{_≡_};
+ghost use mathlib.Core.List.{List};
+ghost use Prim.Native.Nat.{ℕ};
+ghost use lib.ListN.{length};
+ghost use Rattle.ieee.specs.Lists.{listRefusals};
+ghost use Rattle.ieee.specs.Refusal.{given};
+
+// The most places of a list.
+pub const LIMIT: usize = 8192;
+
+// The reasons speak of the lists by their lengths alone.
+pub fn list_refusal(limit: usize, op: u32, read: usize, written: usize) -> u32
+    ensures { λ r. ⌜ ((xs ys : List ℕ) → length xs ≡ read → length ys ≡ written → r ≡ given (listRefusals limit op xs ys)) ⌝ }
+{
+    if op < 1 || op > 3 {
+        return 1;
+    }
+    if read > limit || written > limit {
+        return 2;
+    }
+    if read != written {
+        return 3;
+    }
+    0
+}
