@@ -45,12 +45,12 @@ sum_of() { # FOLDER..: a checksum of its files and their names
 
 make_archive() { # CRATE: sets x86_archive and native_archive
     find_kit
+    sed -n 's/^[[:blank:]]*\([^:[:blank:]]*\)[[:blank:]]*:.*/\1/p' "$root/crates.txt" | grep -qxF -e "$1" || fail 2 "crates.txt has no crate $1"
     out=$root/target/staticlib
     x86_archive=$out/lib$1.a
     if [ "$machine" = aarch64 ]; then native_archive=$out/native/lib$1.a; else native_archive=$x86_archive; fi
     wanted=$(rt version)-$(sum_of "$root/crates" "$root/crates.txt")
     if [ -f "$x86_archive" ] && [ -f "$native_archive" ] && [ "$(cat "$out/$1.sum" 2>/dev/null)" = "$wanted" ]; then return 0; fi
-    sed -n 's/^[[:blank:]]*\([^:[:blank:]]*\)[[:blank:]]*:.*/\1/p' "$root/crates.txt" | grep -qxF -e "$1" || fail 2 "crates.txt has no crate $1"
     say "proving and compiling $1"
     mkdir -p "$out"
     rm -f "$out/$1.sum"
