@@ -1,7 +1,7 @@
 -- Where there is no remainder the answer is the canonical NaN, and else that of the format (Kept). Assumes nothing.
 use mathlib.Core.Path.{sym, _∙_}
 use native.Mathlib.Omega.{arith}
-use borrow.Author.Needs.{needs}
+use mir.Facts.{toZ-ofZ}
 use Rattle.ieee.specs.Format.{b64}
 use Rattle.fields.proofs.Widths.{fits64}
 use Rattle.remquo.proofs.Kept.{none-left}
@@ -12,7 +12,7 @@ returns : tie.Need-returns
 returns c = let s = c .before .before in none-left b64 (s .args .x) (s .args .y) (sym (c .before .no-remainder .ensures) ∙ c .if1 .taken)
 
 returns-2 : tie.Need-returns-2
-returns-2 c = search needs
+returns-2 c = let e = c .before .of-finite .ensures in (e .0, toZ-ofZ (record { sfits = c .struct-told .given .1 .0 .1 }) ∙ e .1)
 
 no-remainder-requires : tie.Need-no-remainder-requires
 no-remainder-requires c κs = fits64
