@@ -210,3 +210,16 @@ pub extern "C" fn pk_fma32(x: u32, y: u32, z: u32) -> u32
 {
     fma32(x, y, z)
 }
+
+// Lists.
+ghost use Rattle.ieee.specs.Lists.{listOf};
+pub use lists::Listed64;
+pub use lists::call::list64;
+
+#[no_mangle]
+pub extern "C" fn pk_list64(op: u32, xs: &[u64], ys: &mut [u64]) -> u32
+    ensures { λ r. ⌜ (r ≡ numberOf (listOf b64 op (now (xs .entry)) (now (ys .entry)) .answer))
+        × (now (ys .exit) ≡ listOf b64 op (now (xs .entry)) (now (ys .entry)) .output) ⌝ }
+{
+    list64(op, xs, ys).refusal
+}
