@@ -3,6 +3,7 @@ ghost use mathlib.Core.Path.{_≡_};
 ghost use Rattle.ieee.specs.Format.{b64, b32};
 ghost use Rattle.ieee.specs.Fma.{fmaOf};
 ghost use Rattle.ieee.specs.Fmod.{fmodOf};
+ghost use Rattle.ieee.specs.Lists.{listOf};
 ghost use Rattle.ieee.specs.Reduction.{reduceOf};
 ghost use Rattle.ieee.specs.Refusal.{numberOf, valueOf};
 ghost use Rattle.ieee.specs.Remquo.{remquoOf, quotientOf};
@@ -19,6 +20,8 @@ pub use fma::fma32;
 pub use fma::fma64;
 pub use fmod::fmod32;
 pub use fmod::fmod64;
+pub use lists::Listed64;
+pub use lists::call::list64;
 pub use reduction::Reduced32;
 pub use reduction::Reduced64;
 pub use reduction::reduce::reduce32;
@@ -210,11 +213,6 @@ pub extern "C" fn pk_fma32(x: u32, y: u32, z: u32) -> u32
 {
     fma32(x, y, z)
 }
-
-// Lists.
-ghost use Rattle.ieee.specs.Lists.{listOf};
-pub use lists::Listed64;
-pub use lists::call::list64;
 
 #[no_mangle]
 pub extern "C" fn pk_list64(op: u32, xs: &[u64], ys: &mut [u64]) -> u32
