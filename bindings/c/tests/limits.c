@@ -1,0 +1,114 @@
+/* The calls that refuse, at their limits and by the names of the header: what is refused, what is done, and which places
+   of the lists are written. Exit status: 0 all is as it must be, 1 something is not. */
+#include <stdio.h>
+
+#include "paskerotim.h"
+#include "paskerotim.h" /* a second time, which must change nothing */
+
+static int checks, failures;
+
+static void expect(int holds, const char *what) {
+    checks++;
+    if (holds) return;
+    failures++;
+    printf("FAILED: %s\n", what);
+}
+
+/* ---- the list call. Every place read is +infinity, which each operation returns as it is. Before and after the places of
+   a list there is one more, which no call may write. */
+#define INFINITE UINT64_C(0x7ff0000000000000)
+#define UNTOUCHED UINT64_C(0x0123456789abcdef)
+#define ROOM (PK_LIST_LIMIT + 1)
+
+static uint64_t input[ROOM + 2], output[ROOM + 2];
+static uint64_t *const xs = input + 1, *const ys = output + 1;
+
+static int all_are(const uint64_t *places, size_t count, uint64_t value) {
+    size_t i;
+    for (i = 0; i < count; i++) {
+        if (places[i] != value) return 0;
+    }
+    return 1;
+}
+
+/* A call on fresh lists must give the number, write all of the output if it is done and nothing else, and leave the input. */
+static void list(const char *what, uint32_t number, uint32_t op, const uint64_t *from, size_t from_len, uint64_t *to, size_t to_len) {
+    size_t i, written = number == PK_DONE ? to_len : 0;
+    for (i = 0; i < ROOM + 2; i++) {
+        input[i] = INFINITE;
+        output[i] = UNTOUCHED;
+    }
+    expect(pk_list64(op, from, from_len, to, to_len) == number, what);
+    expect(all_are(input, ROOM + 2, INFINITE), what);
+    expect(output[0] == UNTOUCHED && all_are(ys, written, INFINITE), what);
+    expect(all_are(ys + written, ROOM + 1 - written, UNTOUCHED), what);
+}
+
+static void lists(uint32_t op) {
+    list("no place", PK_DONE, op, xs, 0, ys, 0);
+    list("one place", PK_DONE, op, xs, 1, ys, 1);
+    list("8,192 places", PK_DONE, op, xs, 8192, ys, 8192);
+    list("8,193 places", PK_LIST_TOO_LONG, op, xs, 8193, ys, 8193);
+    list("8,193 places to read", PK_LIST_TOO_LONG, op, xs, 8193, ys, 1);
+    list("8,193 places to write", PK_LIST_TOO_LONG, op, xs, 1, ys, 8193);
+    list("more places to read", PK_LENGTHS_DIFFER, op, xs, 3, ys, 2);
+    list("more places to write", PK_LENGTHS_DIFFER, op, xs, 2, ys, 3);
+    list("null and null", PK_DONE, op, NULL, 0, NULL, 0);
+    list("null to read", PK_LENGTHS_DIFFER, op, NULL, 0, ys, 1);
+    list("null to write", PK_LENGTHS_DIFFER, op, xs, 1, NULL, 0);
+    list("null to write, and too much to read", PK_LIST_TOO_LONG, op, xs, 8193, NULL, 0);
+}
+
+static void no_operation(uint32_t op) {
+    list("no operation, one place", PK_UNKNOWN_OPERATION, op, xs, 1, ys, 1);
+    list("no operation, null and null", PK_UNKNOWN_OPERATION, op, NULL, 0, NULL, 0);
+    list("no operation, lists too long and unlike", PK_UNKNOWN_OPERATION, op, xs, 8193, ys, 1);
+}
+
+/* ---- the reduction: the number and the value */
+static void reduce64(const char *what, uint32_t number, uint64_t value, uint64_t x, uint32_t e, uint64_t y) {
+    expect(pk_reduce64_refusal(x, e, y) == number && pk_reduce64(x, e, y) == value, what);
+}
+
+static void reduce32(const char *what, uint32_t number, uint32_t value, uint32_t x, uint32_t e, uint32_t y) {
+    expect(pk_reduce32_refusal(x, e, y) == number && pk_reduce32(x, e, y) == value, what);
+}
+
+static void reductions(void) {
+    reduce64("the greatest divisor at 64", PK_DONE, 1, 1, 0, PK_DIVISOR_LIMIT64);
+    reduce32("the greatest divisor at 32", PK_DONE, 1, 1, 0, PK_DIVISOR_LIMIT32);
+    reduce64("a divisor past it at 64", PK_OUT_OF_RANGE, 0, 1, 0, PK_DIVISOR_LIMIT64 + 1);
+    reduce32("a divisor past it at 32", PK_OUT_OF_RANGE, 0, 1, 0, PK_DIVISOR_LIMIT32 + 1);
+    reduce64("the greatest shift at 64", PK_DONE, 1, 1, PK_SHIFT_LIMIT, 3);
+    reduce32("the greatest shift at 32", PK_DONE, 1, 1, PK_SHIFT_LIMIT, 3);
+    reduce64("a shift past it at 64", PK_SHIFT_TOO_GREAT, 0, 1, PK_SHIFT_LIMIT + 1, 3);
+    reduce32("a shift past it at 32", PK_SHIFT_TOO_GREAT, 0, 1, PK_SHIFT_LIMIT + 1, 3);
+    reduce64("both reasons at 64", PK_OUT_OF_RANGE, 0, 6, PK_SHIFT_LIMIT + 1, 3);
+    reduce32("both reasons at 32", PK_OUT_OF_RANGE, 0, 6, PK_SHIFT_LIMIT + 1, 3);
+}
+
+/* ---- the numbers that the names of the header stand for */
+static void numbers(void) {
+    expect(PK_OK == 0 && PK_INVALID == 1 && PK_INEXACT == 32, "the statuses");
+    expect(PK_DONE == 0 && PK_UNKNOWN_OPERATION == 1 && PK_LIST_TOO_LONG == 2, "the refusals 0 to 2");
+    expect(PK_LENGTHS_DIFFER == 3 && PK_OUT_OF_RANGE == 4 && PK_SHIFT_TOO_GREAT == 5, "the refusals 3 to 5");
+    expect(PK_LIST_SQRT == 1 && PK_LIST_FLOOR == 2 && PK_LIST_TRUNC == 3, "the operations of the list call");
+    expect(PK_LIST_LIMIT == 8192 && PK_SHIFT_LIMIT == 4096, "the limits of places and of the shift");
+    expect(PK_DIVISOR_LIMIT64 == (UINT64_C(1) << 62) - 1, "the limit of the divisor at 64");
+    expect(PK_DIVISOR_LIMIT32 == (UINT32_C(1) << 30) - 1, "the limit of the divisor at 32");
+    expect(pk_fmod64(0, 0) == PK_NAN64 && PK_NAN64 == UINT64_C(0x7ff8000000000000), "the canonical NaN at 64");
+    expect(pk_fmod32(0, 0) == PK_NAN32 && PK_NAN32 == UINT32_C(0x7fc00000), "the canonical NaN at 32");
+}
+
+int main(void) {
+    lists(PK_LIST_SQRT);
+    lists(PK_LIST_FLOOR);
+    lists(PK_LIST_TRUNC);
+    no_operation(0);
+    no_operation(4);
+    no_operation(UINT32_MAX);
+    reductions();
+    numbers();
+    printf("%d checks at the limits, %d failed\n", checks, failures);
+    return failures != 0;
+}
