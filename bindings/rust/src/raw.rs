@@ -1,0 +1,45 @@
+//! The C functions of the archive, and all of the crate's unsafe code.
+//!
+//! `tools/bindings header` holds each declaration against the source of the function that it
+//! declares.
+#![allow(unsafe_code)]
+
+// Safety of the block: the declarations are those of the archive's functions. Safety of the
+// functions that are marked safe: they take and give numbers alone, are proved to end with an
+// answer for every one of them, and read and write no memory of the caller's.
+unsafe extern "C" {
+    pub(crate) safe fn pk_sqrt64(x: u64) -> u64;
+    pub(crate) safe fn pk_sqrt32(x: u32) -> u32;
+    pub(crate) safe fn pk_sqrt64_status(x: u64) -> u32;
+    pub(crate) safe fn pk_sqrt32_status(x: u32) -> u32;
+    pub(crate) safe fn pk_floor64(x: u64) -> u64;
+    pub(crate) safe fn pk_floor32(x: u32) -> u32;
+    pub(crate) safe fn pk_floor64_status(x: u64) -> u32;
+    pub(crate) safe fn pk_floor32_status(x: u32) -> u32;
+    pub(crate) safe fn pk_trunc64(x: u64) -> u64;
+    pub(crate) safe fn pk_trunc32(x: u32) -> u32;
+    pub(crate) safe fn pk_trunc64_status(x: u64) -> u32;
+    pub(crate) safe fn pk_trunc32_status(x: u32) -> u32;
+    pub(crate) safe fn pk_fma64(x: u64, y: u64, z: u64) -> u64;
+    pub(crate) safe fn pk_fma32(x: u32, y: u32, z: u32) -> u32;
+    pub(crate) safe fn pk_fmod64(x: u64, y: u64) -> u64;
+    pub(crate) safe fn pk_fmod32(x: u32, y: u32) -> u32;
+    pub(crate) safe fn pk_remquo64(x: u64, y: u64) -> u64;
+    pub(crate) safe fn pk_remquo64_quotient(x: u64, y: u64) -> i32;
+    pub(crate) safe fn pk_scalbn64(x: u64, n: i32) -> u64;
+    pub(crate) safe fn pk_scalbn32(x: u32, n: i32) -> u32;
+    pub(crate) safe fn pk_reduce64(x: u64, e: u32, y: u64) -> u64;
+    pub(crate) safe fn pk_reduce32(x: u32, e: u32, y: u32) -> u32;
+    pub(crate) safe fn pk_reduce64_refusal(x: u64, e: u32, y: u64) -> u32;
+    pub(crate) safe fn pk_reduce32_refusal(x: u32, e: u32, y: u32) -> u32;
+    unsafe fn pk_list64(op: u32, xs: *const u64, xs_len: usize, ys: *mut u64, ys_len: usize)
+        -> u32;
+}
+
+/// The list call, on slices.
+pub(crate) fn list64(op: u32, xs: &[u64], ys: &mut [u64]) -> u32 {
+    // Safety: a slice's pointer is aligned and valid for its length, to be read, and to be written
+    // where the slice is `&mut`, which also overlaps no other; that is all that the call asks. It
+    // reads and writes within the lengths, and keeps no pointer.
+    unsafe { pk_list64(op, xs.as_ptr(), xs.len(), ys.as_mut_ptr(), ys.len()) }
+}

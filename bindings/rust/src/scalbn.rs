@@ -1,0 +1,31 @@
+//! Scaling by a power of two.
+
+use crate::raw;
+
+/// `x` times 2^`n`, for every `n`, rounded once, on patterns of 64 bits.
+///
+/// Zeros of either sign and infinities are returned as they are. A NaN gives the canonical NaN.
+///
+/// ```
+/// // 1.5 times 2^-1075 is three quarters of the smallest number.
+/// assert_eq!(paskerotim::scalbn64(0x3ff8000000000000, -1075), 0x0000000000000001);
+/// assert_eq!(paskerotim::scalbn64(0x3ff0000000000000, 1024), 0x7ff0000000000000);
+/// ```
+pub fn scalbn64(x: u64, n: i32) -> u64 {
+    raw::pk_scalbn64(x, n)
+}
+
+/// `x` times 2^`n`, for every `n`, rounded once, on patterns of 32 bits; see [`scalbn64`].
+pub fn scalbn32(x: u32, n: i32) -> u32 {
+    raw::pk_scalbn32(x, n)
+}
+
+/// [`scalbn64`] on numbers.
+pub fn scalbn(x: f64, n: i32) -> f64 {
+    f64::from_bits(scalbn64(x.to_bits(), n))
+}
+
+/// [`scalbn32`] on numbers.
+pub fn scalbnf(x: f32, n: i32) -> f32 {
+    f32::from_bits(scalbn32(x.to_bits(), n))
+}

@@ -1,0 +1,6 @@
+//! The crate held to known answers, and at its limits.
+
+mod claims;
+mod known;
+mod nans;
+mod refusals;
