@@ -1,4 +1,6 @@
 // The part of a line that is kept while it comes in, byte by byte. The rest of a longer line is passed over and takes no memory.
+ghost use mathlib.Core.Path.{_≡_};
+ghost use Rattle.lines.specs.Keeping.{noneKept, OneMore};
 
 // The bytes that are kept: more than any request has, with ` -> ` after it.
 pub const KEPT: usize = 128;
@@ -9,7 +11,9 @@ pub struct Kept {
     pub is_long: bool,
 }
 
-pub fn nothing_kept() -> Kept {
+pub fn nothing_kept() -> Kept
+    ensures { λ r. ⌜ r ≡ noneKept ⌝ }
+{
     Kept {
         held: 0,
         is_long: false,
@@ -17,7 +21,9 @@ pub fn nothing_kept() -> Kept {
 }
 
 // Keeps one byte more, where there is room for it.
-pub fn keep(line: &mut [u8; 128], mut k: Kept, b: u8) -> Kept {
+pub fn keep(line: &mut [u8; 128], mut k: Kept, b: u8) -> Kept
+    ensures { λ r. ⌜ OneMore (now (line .entry)) k b (now (line .exit)) r ⌝ }
+{
     let held = k.held;
     if held < KEPT {
         line[held] = b;

@@ -1,10 +1,14 @@
 // Finding the parts of a line.
+ghost use mathlib.Core.Path.{_≡_};
+ghost use mathlib.Core.List.{[], _∷_};
 ghost use Prim.Native.Nat.{_≤_};
-ghost use lib.ListN.{length};
+ghost use lib.ListN.{length, drop};
+ghost use Rattle.lines.specs.Places.{starts, placeOf, arrow, partOf, blankTooMany};
 
 // The first place from `from` on where s has the byte b, or the length of s.
 pub fn find(s: &[u8], from: usize, b: u8) -> usize
-    ensures { λ r. ⌜ r ≤ length (now (s .entry)) ⌝ }
+    ensures { λ r. ⌜ r ≡ placeOf (b ∷ []) (now (s .entry)) from ⌝ }
+    ensures within { λ r. ⌜ r ≤ length (now (s .entry)) ⌝ }
 {
     let mut i = from;
     while i < s.len() {
@@ -17,7 +21,9 @@ pub fn find(s: &[u8], from: usize, b: u8) -> usize
 }
 
 // Whether ` -> ` stands in s from the place at on.
-fn is_arrow(s: &[u8], at: usize) -> bool {
+fn is_arrow(s: &[u8], at: usize) -> bool
+    ensures { λ r. ⌜ r ≡ starts arrow (drop at (now (s .entry))) ⌝ }
+{
     if s.len() < 4 {
         return false;
     }
@@ -38,7 +44,8 @@ fn is_arrow(s: &[u8], at: usize) -> bool {
 
 // The place of the first ` -> ` in s, or the length of s.
 pub fn find_arrow(s: &[u8]) -> usize
-    ensures { λ r. ⌜ r ≤ length (now (s .entry)) ⌝ }
+    ensures { λ r. ⌜ r ≡ placeOf arrow (now (s .entry)) 0 ⌝ }
+    ensures within { λ r. ⌜ r ≤ length (now (s .entry)) ⌝ }
 {
     let mut i = 0;
     while i < s.len() {
@@ -51,7 +58,9 @@ pub fn find_arrow(s: &[u8]) -> usize
 }
 
 // The bytes of s from the place a up to the place e; none where there is no such part.
-pub fn part(s: &[u8], a: usize, e: usize) -> &[u8] {
+pub fn part(s: &[u8], a: usize, e: usize) -> &[u8]
+    ensures { λ r. ⌜ now r ≡ partOf (now (s .entry)) a e ⌝ }
+{
     if a <= e {
         if e <= s.len() {
             return &s[a..e];
@@ -61,7 +70,9 @@ pub fn part(s: &[u8], a: usize, e: usize) -> &[u8] {
 }
 
 // Whether a blank stands at either end of s or beside another one.
-pub fn has_blank_too_many(s: &[u8]) -> bool {
+pub fn has_blank_too_many(s: &[u8]) -> bool
+    ensures { λ r. ⌜ r ≡ blankTooMany (now (s .entry)) ⌝ }
+{
     let mut after_blank = true;
     let mut i = 0;
     while i < s.len() {

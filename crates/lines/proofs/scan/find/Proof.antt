@@ -1,36 +1,54 @@
--- `lines::scan::find` meets its contract. The measure is what is left of the length. Assumes nothing.
+-- `lines::scan::find` meets its contract. The invariant: the first place from i on is the first place from `from` on.
+-- The measure is what is left of the length. Assumes nothing.
+use mathlib.Core.Path.{_≡_, refl, _∙_}
+use mathlib.Core.List.{[], _∷_}
 use Prim.Native.Nat.{_-_}
+use native.Mathlib.Omega.{arith}
 use lib.ListN.{length}
-use borrow.Author.Needs.{needs}
+use denote.Ref.{now}
+use Rattle.lines.specs.Places.{placeOf}
+use Rattle.lines.proofs.Scanning.{byte-is, byte-is-not, place-here, place-on, place-end}
 use Rattle.lines.proofs.scan.find.Statement.{statement}
 use Rattle.lines.proofs.scan.find.Tie as tie
 
 abbrev Inv-loop : tie.InvT-loop
-Inv-loop s from b i₀ i = Unit {0}
+Inv-loop s from b i₀ i = placeOf (b ∷ []) s i ≡ placeOf (b ∷ []) s from
 
 abbrev μ-loop : tie.MeasureT-loop
 μ-loop s from b i₀ i = length s - i
 
 loop-holds : tie.Need-loop-holds Inv-loop μ-loop
-loop-holds c = search needs
+loop-holds c = refl
 
 shared-slice-read-if1 : tie.Need-shared-slice-read-if1 Inv-loop μ-loop
-shared-slice-read-if1 c = search needs
+shared-slice-read-if1 c = omega arith
 
 returns : tie.Need-returns Inv-loop μ-loop
-returns c = search needs
+returns c =
+    let at-loop = c .before .before .before in
+    let args = at-loop .before .args in
+    let i = at-loop .loop .i in
+    let s = now (args .s) in
+    (place-here (args .b ∷ []) s i (omega arith) (byte-is (args .b) s i (omega arith) (c .if1 .taken)) ∙ at-loop .loop .inv, omega arith)
 
 add-i : tie.Need-add-i Inv-loop μ-loop
-add-i c = search needs
+add-i c = omega arith
 
 loop-less : tie.Need-loop-less Inv-loop μ-loop
-loop-less c = search needs
+loop-less c = omega arith
 
 loop-again : tie.Need-loop-again Inv-loop μ-loop
-loop-again c = search needs
+loop-again c =
+    let at-loop = c .before .before .before in
+    let args = at-loop .before .args in
+    let i = at-loop .loop .i in
+    let s = now (args .s) in
+    place-on (args .b ∷ []) s i (omega arith) (byte-is-not (args .b) s i (omega arith) (c .if1 .left)) ∙ at-loop .loop .inv
 
 returns-2 : tie.Need-returns-2 Inv-loop μ-loop
-returns-2 c = search needs
+returns-2 c =
+    let args = c .before .before .args in
+    (place-end (args .b ∷ []) (now (args .s)) (c .before .loop .i) (omega arith) ∙ c .before .loop .inv, omega arith)
 
 pub find-spec : {M : Type 1} → statement M
 find-spec =

@@ -1,36 +1,50 @@
--- `lines::scan::find_arrow` meets its contract. The measure is what is left of the length. Assumes nothing.
+-- `lines::scan::find_arrow` meets its contract. The invariant: the first place from i on is the first of all.
+-- The measure is what is left of the length. Assumes nothing.
+use mathlib.Core.Path.{_≡_, refl, sym, _∙_}
 use Prim.Native.Nat.{_-_, _≤_}
+use native.Mathlib.Omega.{arith}
 use lib.ListN.{length}
-use borrow.Author.Needs.{needs}
+use denote.Ref.{now}
+use Rattle.lines.specs.Places.{placeOf, arrow}
+use Rattle.lines.proofs.Scanning.{place-here, place-on, place-end}
 use Rattle.lines.proofs.scan.find_arrow.Statement.{statement}
 use Rattle.lines.proofs.scan.find_arrow.Tie as tie
 
 abbrev Inv-loop : tie.InvT-loop
-Inv-loop s i₀ i = i ≤ length s
+Inv-loop s i₀ i = (i ≤ length s) × (placeOf arrow s i ≡ placeOf arrow s 0)
 
 abbrev μ-loop : tie.MeasureT-loop
 μ-loop s i₀ i = length s - i
 
 loop-holds : tie.Need-loop-holds Inv-loop μ-loop
-loop-holds c = search needs
+loop-holds c = (omega arith, refl)
 
 is-arrow-requires : tie.Need-is-arrow-requires Inv-loop μ-loop
-is-arrow-requires c κs = search needs
+is-arrow-requires c κs = tt
 
 returns : tie.Need-returns Inv-loop μ-loop
-returns c = search needs
+returns c =
+    let at-loop = c .before .before .before in
+    let s = now (at-loop .before .before .args .s) in
+    (place-here arrow s (at-loop .loop .i) (omega arith) (sym (c .before .is-arrow .ensures) ∙ c .if1 .taken) ∙ at-loop .loop .inv .1, omega arith)
 
 add-i : tie.Need-add-i Inv-loop μ-loop
-add-i c = search needs
+add-i c = omega arith
 
 loop-less : tie.Need-loop-less Inv-loop μ-loop
-loop-less c = search needs
+loop-less c = omega arith
 
 loop-again : tie.Need-loop-again Inv-loop μ-loop
-loop-again c = search needs
+loop-again c =
+    let at-loop = c .before .before .before in
+    let s = now (at-loop .before .before .args .s) in
+    (omega arith, place-on arrow s (at-loop .loop .i) (omega arith) (sym (c .before .is-arrow .ensures) ∙ c .if1 .left) ∙ at-loop .loop .inv .1)
 
 returns-2 : tie.Need-returns-2 Inv-loop μ-loop
-returns-2 c = search needs
+returns-2 c =
+    let s = now (c .before .before .before .args .s) in
+    let all : c .before .loop .i ≡ length s = omega arith in
+    (all ∙ place-end arrow s (c .before .loop .i) (omega arith) ∙ c .before .loop .inv .1, omega arith)
 
 pub find-arrow-spec : {M : Type 1} → statement M
 find-arrow-spec =
