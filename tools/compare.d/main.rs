@@ -9,11 +9,15 @@ mod closing;
 #[cfg(test)]
 mod faults;
 #[cfg(test)]
+mod faults_lists;
+#[cfg(test)]
 mod faults_rounded;
 mod fused;
 mod fused_ties;
 mod kinds;
 mod known;
+mod list_shapes;
+mod lists;
 mod numbers;
 mod quick;
 mod record;
@@ -73,6 +77,8 @@ struct Words {
     /// The file of records, to which a run adds its own.
     records: Option<String>,
     chosen: Vec<&'static table::Row>,
+    /// Whether the list call is asked for too.
+    lists: bool,
 }
 
 fn read_words(words: &[String]) -> Result<Words, String> {
@@ -83,6 +89,7 @@ fn read_words(words: &[String]) -> Result<Words, String> {
         count: 1,
         records: None,
         chosen: Vec::new(),
+        lists: false,
     };
     while let [option, value, more @ ..] = rest {
         let number = || value.parse::<u64>().map_err(|_| format!("{option} needs a number"));
@@ -97,10 +104,12 @@ fn read_words(words: &[String]) -> Result<Words, String> {
         }
         rest = more;
     }
-    for name in rest {
+    for name in rest.iter().filter(|name| *name != table::LISTS.name) {
         read.chosen.push(table::find(name).ok_or_else(|| format!("no operation '{name}'"))?);
     }
-    if read.chosen.is_empty() {
+    // Lines of lists are long, and are written only where they are asked for.
+    read.lists = rest.len() > read.chosen.len() || rest.is_empty() && read.task != "lines";
+    if rest.is_empty() {
         read.chosen.extend(table::ROWS.iter());
     }
     Ok(read)
@@ -124,6 +133,12 @@ fn run_words(words: &[String]) -> Result<i32, String> {
             "lines" => record::print_lines(row, words.run.seed, words.count),
             task => return Err(format!("no task '{task}'")),
         }
+    }
+    match words.task.as_str() {
+        _ if !words.lists => {}
+        "drawn" => tallies.push(lists::drawn(&words.run, table::LISTS.ours, words.count)),
+        "lines" => lists::print_lines(words.run.seed, words.count),
+        task => return Err(format!("the list call has no task '{task}'")),
     }
     if let Some(path) = &words.records {
         record::append(path, &words.run, &tallies)?;

@@ -5,7 +5,7 @@ use crate::lines::{write_fields, write_request};
 use crate::operations::{Kind, Operation};
 use crate::request::Answer;
 use crate::run::{Run, leaves_status_out, operation_of, requests};
-use crate::table::{Judge, Nans, Row};
+use crate::table::{Judge, Row};
 use crate::tally::Tally;
 use std::collections::{BTreeMap, HashSet};
 use std::io::Write;
@@ -24,9 +24,7 @@ pub fn print_lines(row: &Row, seed: u64, count: u64) {
             Judge::Crate => (row.crates)(&request),
             Judge::Plain(_) => Answer::exact(operation, &request),
         };
-        if row.nans == Nans::Equal && operation.format.is_nan(answer.word) {
-            answer.word = operation.format.canonical_nan();
-        }
+        answer.word = row.nans.ours(operation.format, answer.word);
         if row.judge == Judge::Crate && kind_of(&KINDS, operation, &request).is_some() {
             continue;
         }
@@ -60,7 +58,10 @@ impl Record {
     pub fn of(run: &Run, tally: &Tally) -> Record {
         Record {
             operation: tally.operation.name.to_string(),
-            operands: tally.operands.clone(),
+            operands: match tally.calls {
+                Some(calls) => format!("{} in {calls} calls", tally.operands),
+                None => tally.operands.clone(),
+            },
             seed: tally.seed.clone(),
             on: run.on.clone(),
             build: run.build.clone(),

@@ -13,7 +13,7 @@ use std::panic::{AssertUnwindSafe, catch_unwind};
 use std::sync::Mutex;
 
 /// Differences beyond these are counted and not printed.
-const PRINTED: u64 = 10;
+pub const PRINTED: u64 = 10;
 /// The plain program's own draws at the head of a run: exact numbers of thousands of digits take their time.
 const MOST_BUILT: u64 = 20_000;
 
@@ -61,6 +61,12 @@ pub fn keep_panics() {
     }));
 }
 
+/// What a side answers, or what it said when it panicked.
+pub fn caught<T>(side: impl FnOnce() -> T) -> Result<T, String> {
+    catch_unwind(AssertUnwindSafe(side))
+        .map_err(|_| PANIC.lock().map(|said| said.clone()).unwrap_or_default())
+}
+
 pub fn operation_of(row: &Row) -> &'static Operation {
     operations::find(row.name).expect("each row has the name of an operation of docs/LINES.md")
 }
@@ -81,7 +87,7 @@ impl Run {
             }
         }
         tally.unmet = unmet(operation, &tally.explained);
-        let kinds = tally.kinds_text(row);
+        let kinds = tally.kinds_text(kind_names(row));
         let tally = tally.close();
         println!("{}: of these {kinds}", row.name);
         if let Judge::Plain(beside) = row.judge {
@@ -114,17 +120,12 @@ impl Run {
 
     fn try_one(&self, row: &Row, request: &Request, tally: &mut Tally) {
         tally.tried += 1;
-        let sides = catch_unwind(AssertUnwindSafe(|| ((row.ours)(request), (row.crates)(request))));
-        let Ok((mut ours, mut crates)) = sides else {
-            tally.panics += 1;
-            if tally.panics <= PRINTED {
-                let said = PANIC.lock().map(|said| said.clone()).unwrap_or_default();
-                println!(
-                    "panic: {}; {said}",
-                    write_request(tally.operation, &request.fields(tally.operation))
-                );
+        let (mut ours, mut crates) = match caught(|| ((row.ours)(request), (row.crates)(request))) {
+            Ok(sides) => sides,
+            Err(said) => {
+                let request = write_request(tally.operation, &request.fields(tally.operation));
+                return tally.panic(&format!("{request}; {said}"));
             }
-            return;
         };
         let mut judged = match row.judge {
             Judge::Crate => None,
@@ -172,11 +173,7 @@ impl Run {
 
 /// Whether two answers count as the same.
 pub fn same(nans: Nans, operation: &Operation, ours: &Answer, crates: &Answer) -> bool {
-    let format = operation.format;
-    let word_same = match nans == Nans::Equal && format.is_nan(crates.word) {
-        true => ours.word == format.canonical_nan(),
-        false => ours.word == crates.word,
-    };
+    let word_same = ours.word == nans.ours(operation.format, crates.word);
     let number_same = ours.number == crates.number || leaves_status_out(operation);
     word_same && number_same && ours.list == crates.list
 }

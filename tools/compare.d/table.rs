@@ -3,7 +3,9 @@
 //! The kinds of the operands and of the answer, a status among them or not, are those of docs/LINES.md, found by the name.
 //! A new operation is a new row here, its functions of the archive among those below, and a way to draw its operands.
 
+use crate::format::Format;
 use crate::fused::FOR_FUSED;
+use crate::lists::ListCall;
 use crate::quick::{Draw, FOR_SCALING, FOR_WHOLE};
 use crate::reductions::{FOR_REDUCTIONS, by_the_crate};
 use crate::remainders::FOR_REMAINDERS;
@@ -23,7 +25,14 @@ pub enum Nans {
 }
 
 impl Nans {
-    /// The same for a reader of the closing table.
+    /// The word that ours must be where the crate answers this one.
+    pub fn ours(self, format: Format, crates: u64) -> u64 {
+        match self == Nans::Equal && format.is_nan(crates) {
+            true => format.canonical_nan(),
+            false => crates,
+        }
+    }
+    /// The rule for a reader of the closing table.
     pub fn text(self) -> &'static str {
         match self {
             Nans::Equal => "any two equal, ours canonical",
@@ -52,7 +61,16 @@ pub struct Row {
     pub crates: fn(&Request) -> Answer,
 }
 
+/// The list call: how ours is called, and the row of the operation that each number stands for.
+pub struct Lists {
+    pub name: &'static str,
+    pub nans: &'static str,
+    pub ours: ListCall,
+    pub operations: [(u32, &'static str); 3],
+}
+
 extern "C" {
+    fn pk_list64(op: u32, xs: *const u64, xs_len: usize, ys: *mut u64, ys_len: usize) -> u32;
     fn pk_sqrt64(x: u64) -> u64;
     fn pk_sqrt64_status(x: u64) -> u32;
     fn pk_sqrt32(x: u32) -> u32;
@@ -79,8 +97,8 @@ extern "C" {
     fn pk_reduce32_refusal(x: u32, e: u32, y: u32) -> u32;
 }
 
-// Every function of the archive takes and returns numbers, is proved to end, and touches nothing else: that is what makes
-// the calls below safe.
+// Every function of the archive but the list call takes and returns numbers, is proved to end, and touches nothing else:
+// that is what makes the calls below safe.
 pub static ROWS: [Row; 15] = [
     Row {
         name: "trunc64",
@@ -215,6 +233,16 @@ pub static ROWS: [Row; 15] = [
         crates: |r| Answer::value(api::fma32(r.x32(), r.y32(), r.z32()).into()),
     },
 ];
+
+// It is proved to touch nothing but the output, and the lists that are lent to it do not meet.
+pub static LISTS: Lists = Lists {
+    name: "list64",
+    nans: "as of sqrt64, floor64 and trunc64",
+    ours: |number, lent| unsafe {
+        pk_list64(number, lent.input, lent.input_length, lent.output, lent.output_length)
+    },
+    operations: [(1, "sqrt64"), (2, "floor64"), (3, "trunc64")],
+};
 
 pub fn find(name: &str) -> Option<&'static Row> {
     ROWS.iter().find(|row| row.name == name)

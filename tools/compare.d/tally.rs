@@ -1,6 +1,7 @@
 //! What a run has found, and what it says of it: one operation's counts, and a line every few seconds.
 
 use crate::operations::Operation;
+use crate::run::PRINTED;
 use crate::table::Row;
 use std::collections::BTreeMap;
 use std::time::{Duration, Instant};
@@ -15,8 +16,9 @@ pub struct Tally {
     pub operation: &'static Operation,
     /// What becomes of NaNs, in words.
     pub nans: &'static str,
-    /// How many operands, and from what seed, if any.
+    /// How many operands, in how many calls if a call takes many, and from what seed, if any.
     pub operands: String,
+    pub calls: Option<u64>,
     pub seed: String,
     pub tried: u64,
     pub unexplained: u64,
@@ -24,7 +26,7 @@ pub struct Tally {
     pub explained: BTreeMap<&'static str, u64>,
     /// The known differences that should have been met and were not.
     pub unmet: Vec<&'static str>,
-    /// How many operands of each kind there were, in the order of `kind_names`.
+    /// How many operands of each kind there were, or calls, in the order of the kinds.
     pub kinds: Vec<u64>,
     /// How often ours gave each number of a refusal, 0 among them; for the operations that have refusals.
     pub refusals: BTreeMap<i64, u64>,
@@ -41,6 +43,7 @@ impl Tally {
             operation,
             nans,
             operands,
+            calls: None,
             seed,
             kinds: Vec::new(),
             refusals: BTreeMap::new(),
@@ -60,8 +63,8 @@ impl Tally {
         if texts.is_empty() { "none".to_string() } else { texts.join(", ") }
     }
     /// What the operands were, and what was refused: a line of its own, for all that was drawn.
-    pub fn kinds_text(&self, row: &Row) -> String {
-        let each = kind_names(row).zip(&self.kinds).map(|(kind, count)| format!("{count} {kind}"));
+    pub fn kinds_text(&self, names: impl Iterator<Item = &'static str>) -> String {
+        let each = names.zip(&self.kinds).map(|(kind, count)| format!("{count} {kind}"));
         let mut text = each.collect::<Vec<String>>().join("; ");
         for (number, count) in &self.refusals {
             text += &match number {
@@ -71,13 +74,22 @@ impl Tally {
         }
         text
     }
+    /// One side has panicked, on what is written here.
+    pub fn panic(&mut self, text: &str) {
+        self.panics += 1;
+        if self.panics <= PRINTED {
+            println!("panic: {text}");
+        }
+    }
     pub fn close(self) -> Tally {
-        let (name, operands, seed) = (self.operation.name, &self.operands, &self.seed);
+        let (name, seed) = (self.operation.name, &self.seed);
+        let calls = self.calls.map_or(String::new(), |calls| format!(" in {calls} calls"));
+        let operands = format!("{} operands{calls}", self.operands);
         let (found, explained) = (self.unexplained, self.explained_text());
         let panics =
             if self.panics > 0 { format!("; {} panics", self.panics) } else { String::new() };
         println!(
-            "{name}: {operands} operands, seed {seed}: {found} differences not explained, explained: {explained}{panics}"
+            "{name}: {operands}, seed {seed}: {found} differences not explained, explained: {explained}{panics}"
         );
         for entry in &self.unmet {
             println!(
