@@ -112,8 +112,3 @@ sfitsZ w z p q = record { sfits = magZ z (2 ^ hbits w) p q }
 pub nonNegZ : (z : ℤ) → dn z ≤ up z → T (nonNeg z)
 nonNegZ (pos n) h = tt
 nonNegZ (negsuc n) h = absurd (omega arith)
-
--- the sign, by cases, as naturals
-pub signZ : (z : ℤ) {G : Type 0} → (dn z ≡ 0 → G) → (up z ≡ 0 → 0 < dn z → G) → G
-signZ (pos n) f g = f refl
-signZ (negsuc n) f g = g refl (omega arith)

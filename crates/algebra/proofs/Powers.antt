@@ -3,17 +3,13 @@ use mathlib.Core.Path.{_≡_, sym, ap, _∙_}
 use Prim.Native.Nat.{ℕ, suc, _+_, _*_, _-_, _^_, _≤_, _<_}
 use native.Mathlib.Nat.{pow-suc}
 use native.Mathlib.Omega.{arith, by-contra}
-use lib.Pow.{pow-add, pow-pos, pow-mono}
+use lib.Pow.{pow-add, pow-mono}
 
 pub ruleset pow-out = (pow-add, pow-suc)
 
 -- a difference in an exponent, as a product
 pub pow-diff : {a b : ℕ} → b ≤ a → 2 ^ (a - b) * 2 ^ b ≡ 2 ^ a
 pow-diff {a} {b} h = sym (pow-add 2 (a - b) b) ∙ ap (λ x. 2 ^ x) (omega arith)
-
--- a larger power is a multiple of a smaller
-pub pow-multiple : {a b : ℕ} → a ≤ b → (d : ℕ) × (2 ^ b ≡ d * 2 ^ a) × (0 < d)
-pow-multiple {a} {b} h = (2 ^ (b - a), sym (pow-diff h), pow-pos (b - a))
 
 pub pow-inj-lt : (i j : ℕ) → 2 ^ i < 2 ^ j → i < j
 pow-inj-lt i j h = by-contra (suc i) j (λ l. omega (arith, pow-mono {i = j} {j = i} (omega arith)))

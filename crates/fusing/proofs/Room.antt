@@ -10,7 +10,6 @@ use lib.Signed.{mag}
 use Rattle.algebra.proofs.Products.{times-le}
 use Rattle.algebra.proofs.Integers.{up, dn, addZ, subZ, oneZ, magZ}
 use Rattle.ieee.specs.Format.{Format, Fair, low}
-use Rattle.ieee.specs.Pattern.{minus, unlike}
 use Rattle.fields.specs.Width.{format, Fits}
 use Rattle.fields.proofs.Widths.{fields-small}
 use Rattle.sticky.proofs.Stuck.{stuck-le}
@@ -20,7 +19,7 @@ use Rattle.norms.specs.Norm.{placeOf}
 use Rattle.norms.proofs.Asides.{Ordinary}
 use Rattle.norms.proofs.Places.{place-bounds, unbias-small}
 use Rattle.fusing.specs.Aligned.{productAt, thirdAt, downBy, joined}
-use Rattle.fusing.specs.Fused.{productSig, thirdSig, aboveBy, productSteps, thirdSteps, fusedSteps, fusedPlace}
+use Rattle.fusing.specs.Fused.{productSig, thirdSig, aboveBy, fusedPlace}
 
 -- ---- counts
 pub below-pow : {n i j : ℕ} → i ≤ j → n < 2 ^ i → n < 2 ^ j
@@ -72,10 +71,6 @@ module _ (f : Format) (g : Fair f) (x y z : ℕ) (ox : Ordinary f x) (oy : Ordin
       let more : 2 ^ (f .frac + 3 + l) ≡ 2 ^ (f .frac + 2 + l) + 2 ^ (f .frac + 2 + l) = ap (λ k. 2 ^ k) (omega arith) ∙ two-pow-succ (f .frac + 2 + l) in
       let below = pow-mono {i = f .frac + f .frac + 3} {j = f .frac + 2 + l} (omega arith) in
       omega (arith, product-fits f g x y ox oy l d, third-fits f g z oz l d)
-
-  pub fused-fits : fusedSteps f l x y z < 2 ^ (f .frac + 3 + l)
-  fused-fits =
-      omega (arith, joined-le (unlike (unlike (minus f x) (minus f y)) (minus f z)) (productSteps f l x y z) (thirdSteps f l x y z), sum-fits (aboveBy f x y z))
 
 -- ---- exponents, in a format that fits in a word
 pub down-le : (l : ℕ) (d : ℤ) → downBy l d ≤ up d

@@ -5,7 +5,7 @@ use mathlib.Core.Bool.{Bool, true, false, cond}
 use native.Mathlib.Omega.{arith}
 use borrow.Author.Tests.{lt-ltb, le-ltb}
 use lib.Dec.{ltb}
-use lib.IntN.{ℤ, pos, negℤ, _+ℤ_}
+use lib.IntN.{pos, negℤ, _+ℤ_}
 use Rattle.algebra.proofs.Products.{order, times, times-le, diff}
 use Rattle.algebra.proofs.Integers.{addZ, negZ, eqZ}
 use Rattle.ieee.specs.Pattern.{unlike, withSign}

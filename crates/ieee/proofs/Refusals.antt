@@ -6,7 +6,7 @@ use mathlib.Core.Bool.{Bool, true, false, not, _||_, cond, true≢false, false�
 use mathlib.Core.List.{List, [], _∷_}
 use native.Mathlib.Omega.{arith}
 use lib.Dec.{leb, ltb}
-use Rattle.ieee.specs.Refusal.{Refusal, given, done, refused, numberOf, valueOf}
+use Rattle.ieee.specs.Refusal.{Refusal, given, refused, numberOf, valueOf}
 use Rattle.ieee.proofs.Decide.{Reads, so, not-so, leb-reads}
 
 -- a refusal of the list has this number, its reason holds, and no reason before it does
@@ -126,9 +126,6 @@ none-last {N = N} {r} d = (to, λ h. and-none (not-told d .1 h) end)
 pub same-at : {P : Type 0} {i j k : ℕ} → (i ≡ k) ↔ P → (j ≡ k) ↔ P → i ≡ k → i ≡ j
 same-at p q e = e ∙ sym (q .1 (p .0 e))
 
--- ---- an answer's two parts
-pub done-is : (v : ℕ) → (numberOf (done v) ≡ 0) × (valueOf (done v) ≡ v)
-done-is v = (refl, refl)
-
+-- ---- a refusal's two parts
 pub refused-is : (k : ℕ) → (numberOf (refused k) ≡ k) × (valueOf (refused k) ≡ 0)
 refused-is k = (refl, refl)

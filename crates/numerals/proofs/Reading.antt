@@ -78,7 +78,3 @@ read-below b v (c ∷ s) r e =
     order b (digitOf c)
     (λ l. let other : Wrong ≡ Number r = rw (le-ltb (digitOf c) b l) at e in let never : _≡_ {A = ℕ} 0 1 = cc in absurd (omega arith))
     (λ l. below-step b v (digitOf c) (length s) r l (read-below b (v * b + digitOf c) s r (rw (lt-ltb (digitOf c) b l) at e)))
-
--- so eight hex digits fit 32 bits, and sixteen fit 64
-pub digits-below : (b : ℕ) (s : List ℕ) (r : ℕ) → readOn b 0 s ≡ Number r → r < b ^ length s
-digits-below b s r e = omega (arith, read-below b 0 s r e)

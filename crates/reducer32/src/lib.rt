@@ -1,6 +1,6 @@
 // The reducer on words of 32 bits: as the one on 64, where a number of two words is one of 64 bits.
 ghost use mathlib.Core.Path.{_≡_};
-ghost use Prim.Native.Nat.{_+_, _*_, _≤_, _<_, _^_};
+ghost use Prim.Native.Nat.{_+_, _*_, _<_, _^_};
 ghost use Rattle.reducer32.specs.Held.{Holds32, held, Reduces32, Stepped32};
 use bits::low;
 

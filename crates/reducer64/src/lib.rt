@@ -1,6 +1,6 @@
 // The reducer on words of 64 bits: what is left of x times 2^k for the divisor n, k below 64, with two products and no division.
 ghost use mathlib.Core.Path.{_≡_};
-ghost use Prim.Native.Nat.{_+_, _*_, _≤_, _<_, _^_};
+ghost use Prim.Native.Nat.{_+_, _*_, _<_, _^_};
 ghost use Rattle.reducer64.specs.Held.{Holds64, held, Reduces64, Stepped64};
 use bits::low;
 use division::div;

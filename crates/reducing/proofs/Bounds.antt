@@ -1,9 +1,9 @@
 -- The reducer's bounds, as plain numbers: s is R / 2, so that R is 2 s and R R / 2 is 2 s s. Assumes nothing.
-use Prim.Native.Nat.{ℕ, _+_, _-_, _*_, _/_, _%_, _≤_, _<_}
-use mathlib.Core.Path.{_≡_, sym}
+use Prim.Native.Nat.{ℕ, _+_, _-_, _*_, _/_, _≤_, _<_}
+use mathlib.Core.Path.{_≡_}
 use native.Mathlib.Omega.{arith}
 use native.Mathlib.Nat.{mul-le-mul}
-use Rattle.algebra.proofs.Products.{order, times, times-le, mul-le-cancel, mul-lt-cancel, mul-eq-cancel}
+use Rattle.algebra.proofs.Products.{order, times, times-le, mul-le-cancel, mul-lt-cancel}
 use Rattle.algebra.proofs.Quotients.{div-is}
 
 -- what the words hold: x for the divisor n, over s

@@ -1,6 +1,6 @@
 -- From step to step: what is left of x, with the quotient kept in the statement. Assumes nothing.
 use Prim.Native.Nat.{ℕ, _+_, _-_, _*_, _/_, _%_, _^_, _≤_, _<_}
-use mathlib.Core.Path.{_≡_, refl, sym, ap, _∙_, subst}
+use mathlib.Core.Path.{_≡_, sym, ap, _∙_, subst}
 use native.Mathlib.Omega.{arith}
 use lib.Pow.{pow-add}
 use Rattle.algebra.proofs.Products.{times}

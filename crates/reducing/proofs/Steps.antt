@@ -1,10 +1,10 @@
 -- A reducer's steps, as plain numbers: s is R / 2, as in Bounds. Assumes nothing.
 use Prim.Native.Nat.{ℕ, _+_, _-_, _*_, _/_, _%_, _≤_, _<_}
-use mathlib.Core.Path.{_≡_, sym, ap, _∙_}
+use mathlib.Core.Path.{_≡_}
 use native.Mathlib.Omega.{arith}
 use native.Mathlib.Nat.{mul-le-mul}
-use Rattle.algebra.proofs.Products.{times, times-le, diff, mul-le-cancel, mul-lt-cancel, mul-eq-cancel}
-use Rattle.algebra.proofs.Quotients.{div-mod, div-is}
+use Rattle.algebra.proofs.Products.{times, times-le, diff, mul-le-cancel, mul-lt-cancel}
+use Rattle.algebra.proofs.Quotients.{div-is}
 use Rattle.reducing.proofs.Bounds.{Kept, whole-passes-word, product-room}
 
 -- ---- the start: f and r of R (R / 2 - m) = f m + r are q less R, and the same r

@@ -2,7 +2,6 @@
 use Prim.Native.Nat.{ℕ, _+_, _-_, _*_, _/_, _%_, _^_, _≤_, _<_}
 use mathlib.Core.Path.{_≡_, refl, sym, ap, _∙_, subst}
 use native.Mathlib.Omega.{arith}
-use native.Mathlib.Nat.{mod-lt}
 use lib.Pow.{pow-add, pow-pos, pow-mono}
 use Rattle.algebra.proofs.Products.{times, times-le, mul-lt-cancel}
 use Rattle.algebra.proofs.Powers.{pow-diff}

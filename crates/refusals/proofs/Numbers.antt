@@ -1,11 +1,11 @@
 -- The number and the value of the reduction's answer, by what the code tests, over the width of the words. Assumes nothing.
 use Prim.Native.Nat.{ℕ, _*_, _%_, _^_, _≤_, _<_}
-use mathlib.Core.Path.{_≡_, refl, sym, ap, _∙_}
+use mathlib.Core.Path.{_≡_, sym, ap, _∙_}
 use mathlib.Core.Logic.{inl, inr}
 use native.Mathlib.Omega.{arith}
-use Rattle.ieee.specs.Refusal.{Answer, done, numberOf, valueOf}
+use Rattle.ieee.specs.Refusal.{numberOf, valueOf}
 use Rattle.ieee.specs.Reduction.{shiftLimit, divisorLimit, reduceOf}
-use Rattle.ieee.proofs.Reductions.{Fit, ReduceRefusals, ReducedAs, reduction-is, reduce-done}
+use Rattle.ieee.proofs.Reductions.{Fit, ReduceRefusals, reduction-is, reduce-done}
 
 module _ (w x e y : ℕ) where
   abbrev number : ℕ

@@ -4,7 +4,7 @@ use mathlib.Core.Path.{_≡_, sym, ap, _∙_}
 use mathlib.Core.Bool.{Bool, true, false}
 use native.Mathlib.Omega.{arith}
 use lib.Dec.{eqb}
-use lib.IntN.{ℤ, pos, natAbs, _+ℤ_}
+use lib.IntN.{pos, natAbs, _+ℤ_}
 use lib.Pow.{pow-add, pow-pos}
 use borrow.Author.Tests.{eqb-true, eqb-false}
 use Rattle.algebra.proofs.Products.{times, times-le, mul-eq-cancel, mul-lt-cancel}

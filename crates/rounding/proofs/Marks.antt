@@ -16,10 +16,6 @@ marks-cut v n t r s e l z h =
     let f = times n (z (omega arith)) in
     record { exact = λ q. omega (arith, f); more = λ q. omega (arith, f); less = λ q. omega (arith, f) })
 
--- nothing lost
-pub marks-exact : (n s : ℕ) → 0 < n → Marks (s * n) n s
-marks-exact n s p = record { exact = λ q. omega arith; more = λ q. omega arith; less = λ q. omega arith }
-
 module _ {v n s : ℕ} (m : Marks v n s) where
   pub marks-times : (d : ℕ) → 0 < d → Marks (v * d) (n * d) s
   marks-times d p =
@@ -69,19 +65,3 @@ module _ {v n s : ℕ} (m : Marks v n s) where
         more = λ q. omega (arith, d, b, m .more (omega arith));
         less = λ q. omega (arith, d, b, m .less (omega arith));
       }
-
-  -- a mark of a mark, in an even count of steps
-  pub marks-again : (d t : ℕ) → d % 2 ≡ 0 → 0 < n → Marks s d t → Marks v (d * n) t
-  marks-again d t e p w =
-      let half : d ≡ d / 2 * 2 = omega arith in
-      order 1 (s % 2)
-      (λ q. record {
-        exact = λ h. absurd (omega (arith, w .exact h, times t half));
-        more = λ h. omega (arith, m .more (omega arith), times-le n (w .more h));
-        less = λ h. omega (arith, m .less (omega arith), times-le n (w .less h));
-      })
-      (λ q. record {
-        exact = λ h. omega (arith, m .exact (omega arith), times n (w .exact h));
-        more = λ h. omega (arith, m .exact (omega arith), times-le n (w .more h));
-        less = λ h. omega (arith, m .exact (omega arith), times-le n (w .less h));
-      })

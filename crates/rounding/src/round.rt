@@ -1,6 +1,6 @@
 // The rounding step: a sign, a significand and an exponent to the nearest pattern.
 ghost use mathlib.Core.Path.{_≡_};
-ghost use Prim.Native.Nat.{_+_, _≤_, _<_, _^_};
+ghost use Prim.Native.Nat.{_≤_, _<_, _^_};
 ghost use lib.Signed.{mag};
 ghost use Rattle.ieee.specs.Format.{b64, b32, inf};
 ghost use Rattle.ieee.specs.Pattern.{signed};

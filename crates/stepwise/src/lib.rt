@@ -1,6 +1,6 @@
 // The plain reduction, x times 2^e modulo y, a bit at a time: what the quick one is proved equal to.
 ghost use mathlib.Core.Path.{_≡_};
-ghost use Prim.Native.Nat.{_+_, _*_, _%_, _≤_, _<_, _^_};
+ghost use Prim.Native.Nat.{_*_, _%_, _<_, _^_};
 
 // What is left of x below twice y: y is taken away once, or not at all.
 pub fn once(x: u64, y: u64) -> u64

@@ -1,6 +1,6 @@
 -- `modular32::by_words32` meets its contract: what the reducer holds is left of x times the part of 2^e that is done (reducing: Rounds). Assumes nothing.
-use mathlib.Core.Path.{_≡_, ap, _∙_, subst}
-use Prim.Native.Nat.{ℕ, _+_, _-_, _*_, _%_, _^_, _≤_, _<_}
+use mathlib.Core.Path.{ap, _∙_, subst}
+use Prim.Native.Nat.{ℕ, _-_, _%_, _≤_}
 use native.Mathlib.Nat.{mod-lt}
 use native.Mathlib.Omega.{arith}
 use borrow.Author.Needs.{needs}

@@ -1,6 +1,6 @@
 -- `modular64::by_words64` meets its contract: what the reducer holds is left of x times the part of 2^e that is done (reducing: Rounds). Assumes nothing.
-use mathlib.Core.Path.{_≡_, ap, _∙_, subst}
-use Prim.Native.Nat.{ℕ, _+_, _-_, _*_, _%_, _^_, _≤_, _<_}
+use mathlib.Core.Path.{ap, _∙_, subst}
+use Prim.Native.Nat.{ℕ, _-_, _%_, _≤_}
 use native.Mathlib.Omega.{arith}
 use Rattle.words.specs.Value.{value}
 use Rattle.reducing.proofs.Rounds.{After, after-start, after-round, after-last, left-at-last, state-below}

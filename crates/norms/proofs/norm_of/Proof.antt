@@ -1,5 +1,5 @@
 -- The field tells the two cases of the definition apart (significands: Significands), and no step wraps (Places, algebra: Integers). Assumes nothing.
-use Prim.Native.Nat.{ℕ, suc, _+_, _-_, _*_, _^_, _<_}
+use Prim.Native.Nat.{ℕ, suc, _+_, _*_, _^_, _<_}
 use mathlib.Core.Path.{_≡_, sym, ap, ap₂, _∙_, subst}
 use native.Mathlib.Nat.{mod-eq-of-lt, two-pow-succ}
 use native.Mathlib.Omega.{arith}

@@ -1,6 +1,6 @@
 -- `reducer64::Reducer64::word_reduce` meets its contract (reducing: Widths). Assumes nothing.
-use mathlib.Core.Path.{_≡_, refl, sym, ap₂, subst}
-use Prim.Native.Nat.{_+_, _-_, _*_, _/_, _%_, _^_, _<_}
+use mathlib.Core.Path.{refl, sym, ap₂, subst}
+use Prim.Native.Nat.{_+_, _*_, _/_, _^_, _<_}
 use native.Mathlib.Omega.{arith}
 use borrow.Author.Needs.{needs}
 use Rattle.words.specs.Value.{value}
