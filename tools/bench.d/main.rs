@@ -11,7 +11,7 @@ mod random;
 mod report;
 mod run;
 
-use operations::OPERATIONS;
+use operations::{LISTS, OPERATIONS};
 use run::Run;
 use std::io::Write;
 use std::time::{Duration, Instant};
@@ -22,9 +22,10 @@ const SILENCE: Duration = Duration::from_secs(3);
 fn main() {
     let mut run = asked(std::env::args().skip(1)).unwrap_or_else(|error| fail(&error));
     let mut said = Instant::now();
-    for (done, operation) in OPERATIONS.iter().enumerate() {
+    let all: Vec<_> = OPERATIONS.iter().chain(LISTS).collect();
+    for (done, operation) in all.iter().enumerate() {
         if said.elapsed() > SILENCE {
-            eprintln!("bench: {}, operation {} of {}", operation.name, done + 1, OPERATIONS.len());
+            eprintln!("bench: {}, operation {} of {}", operation.name, done + 1, all.len());
             said = Instant::now();
         }
         run.operation = operation.name;

@@ -16,7 +16,7 @@ pub enum Calls {
     Dependent,
 }
 
-/// Nanoseconds a call, over the passes.
+/// Nanoseconds a call, or a place of a list, over the passes.
 pub struct Figures {
     pub least: f64,
     pub median: f64,
@@ -43,7 +43,8 @@ fn dependent<T: Copy, A: Answer>(operands: &[T], side: impl Fn(T, u64) -> A) -> 
     last
 }
 
-fn pass<T: Copy, A: Answer>(calls: Calls, operands: &[T], side: impl Fn(T, u64) -> A) -> f64 {
+/// Nanoseconds a call, over one pass.
+pub fn pass<T: Copy, A: Answer>(calls: Calls, operands: &[T], side: impl Fn(T, u64) -> A) -> f64 {
     let operands = black_box(operands);
     let start = Instant::now();
     black_box(match calls {
@@ -53,22 +54,25 @@ fn pass<T: Copy, A: Answer>(calls: Calls, operands: &[T], side: impl Fn(T, u64) 
     start.elapsed().as_nanos() as f64 / operands.len() as f64
 }
 
+/// Nanoseconds a place, over one pass from one list into another.
+pub fn list_pass(input: &[u64], output: &mut [u64], side: impl Fn(&[u64], &mut [u64])) -> f64 {
+    let input = black_box(input);
+    let start = Instant::now();
+    side(input, output);
+    black_box(output);
+    start.elapsed().as_nanos() as f64 / input.len() as f64
+}
+
 /// Both sides in turns, so that both meet the same state of the machine; which goes first changes at every turn.
-pub fn turns<T: Copy, A: Answer>(
-    calls: Calls,
-    passes: usize,
-    operands: &[T],
-    ours: impl Fn(T, u64) -> A + Copy,
-    theirs: impl Fn(T, u64) -> A + Copy,
-) -> (Figures, Figures) {
+pub fn turns(passes: usize, mut ours: impl FnMut() -> f64, mut theirs: impl FnMut() -> f64) -> (Figures, Figures) {
     let (mut our_passes, mut their_passes) = (Vec::new(), Vec::new());
     for turn in 0..WARMING + passes {
         if turn % 2 == 0 {
-            our_passes.push(pass(calls, operands, ours));
-            their_passes.push(pass(calls, operands, theirs));
+            our_passes.push(ours());
+            their_passes.push(theirs());
         } else {
-            their_passes.push(pass(calls, operands, theirs));
-            our_passes.push(pass(calls, operands, ours));
+            their_passes.push(theirs());
+            our_passes.push(ours());
         }
     }
     (figures(&mut our_passes[WARMING..]), figures(&mut their_passes[WARMING..]))

@@ -96,6 +96,42 @@ operations! {
     fma32             (x: u32, y: u32, z: u32)     [pk_fma32: u32]                               { fmaf(f32::from_bits(x), f32::from_bits(y), f32::from_bits(z)).to_bits() } [patterns, level, spread, cancelling, tiny];
 }
 
+/// The list call, a row for each of its operations by their numbers. Ours is one call; the crate's side is a plain loop
+/// that calls its function for each place, from one slice into another.
+macro_rules! lists {
+    ($($name:ident $operand:tt $number:literal { $theirs:expr } [$($set:ident),+];)+) => {
+        pub const LISTS: &[Operation] = &[$(Operation {
+            name: stringify!($name),
+            measure: |run| {
+                #[inline(never)]
+                fn theirs $operand -> u64 {
+                    veil!($operand);
+                    $theirs
+                }
+                let their_side = |input: &[u64], output: &mut [u64]| input.iter().zip(output).for_each(|(x, y)| *y = theirs(*x));
+                $(run.measure_list(stringify!($set), operands::$set, $number, |input, output| list($number, input, output), their_side);)+
+            },
+        }),+];
+    };
+}
+
+// tools/bench reads these rows too.
+lists! {
+//  name              operand   number  the crate's, on patterns                                   sets
+    list64_sqrt       (x: u64)  1       { root64(x).val.to_bits() }                                [patterns, positive];
+    list64_floor      (x: u64)  2       { generic::floor_status(f64::from_bits(x)).val.to_bits() } [patterns, fractions];
+    list64_trunc      (x: u64)  3       { generic::trunc_status(f64::from_bits(x)).val.to_bits() } [patterns, fractions];
+}
+
+/// Our list call, which refuses nothing here: a set is as long as a list may be.
+fn list(number: u32, input: &[u64], output: &mut [u64]) {
+    extern "C" {
+        fn pk_list64(op: u32, xs: *const u64, xs_len: usize, ys: *mut u64, ys_len: usize) -> u32;
+    }
+    let refusal = unsafe { pk_list64(number, input.as_ptr(), input.len(), output.as_mut_ptr(), output.len()) };
+    assert_eq!(refusal, 0);
+}
+
 #[no_mangle]
 #[inline(never)]
 extern "C" fn identity64(x: u64) -> u64 {

@@ -8,9 +8,13 @@ const AIMS: [(f64, &[&str]); 2] = [
     (1.3, &["fma64", "fmod64", "fmod32", "reduce64", "reduce32"]),
 ];
 
-/// Each kind of calls: its name in the table, what it is, the bar's colour, and how far right its ratio ends.
-const KINDS: [(&str, &str, &str, u32); 2] =
-    [("independent", "independent calls", "#2b6cb0", 870), ("dependent", "calls that wait for the last answer", "#d97706", 940)];
+/// Each kind of calls: its name in the table, what it is, the bar's colour, and how far right its ratio ends. The first two
+/// have a head above their ratios.
+const KINDS: [(&str, &str, &str, u32); 3] = [
+    ("independent", "independent calls", "#2b6cb0", 870),
+    ("dependent", "calls that wait for the last answer", "#d97706", 940),
+    ("list", "one call for a list, by the place", "#2f855a", 870),
+];
 
 const WIDTH: u32 = 960;
 /// Where the words stand, and from where to where the axis goes.
@@ -91,11 +95,13 @@ fn drawn_set(rows: &[Row], scale: &Scale, y: u32) -> String {
     let middle = y + 15;
     let mut text = format!("<text x=\"{}\" y=\"{middle}\" fill=\"{FAINT}\">{}</text>\n", WORDS[1], rows[0].set);
     for (place, row) in rows.iter().enumerate() {
-        let (_, _, colour, end) = KINDS.into_iter().find(|kind| kind.0 == row.calls).expect("a kind of calls");
+        let (_, _, colour, end) =
+            KINDS.into_iter().find(|kind| kind.0 == row.calls).expect("each row has a kind of calls that the picture knows");
         let (one, at) = (scale.x(1.0), scale.x(row.ratio()));
         let (left, width) = (one.min(at), (one - at).abs().max(2.0));
         let (name, set, calls, ratio) = (row.operation, row.set, row.calls, row.ratio_text());
-        let top = y + 2 + place as u32 * (BAR + 1);
+        // Two bars fill the line, and one stands in the middle of it.
+        let top = if rows.len() == 1 { y + 7 } else { y + 2 + place as u32 * (BAR + 1) };
         text += &format!(
             "<rect class=\"bar\" x=\"{left:.1}\" y=\"{top}\" width=\"{width:.1}\" height=\"{BAR}\" fill=\"{colour}\">\
              <title>{name}, {set}, {calls}: {ratio}</title></rect>\n"
@@ -145,7 +151,7 @@ impl Scale {
                 text += &format!("<text x=\"{:.1}\" y=\"{y}\" text-anchor=\"middle\" fill=\"{FAINT}\">{number}</text>\n", self.x(*tick));
             }
         }
-        for (name, _, colour, end) in KINDS {
+        for (name, _, colour, end) in &KINDS[..2] {
             let y = top - 10;
             text += &format!("<text x=\"{end}\" y=\"{y}\" text-anchor=\"end\" font-size=\"11\" fill=\"{colour}\">{name}</text>\n");
         }

@@ -1,7 +1,7 @@
 //! One run: what is asked for, and the rows that come of it.
 
 use crate::answers::Answer;
-use crate::measure::{turns, Calls, Figures, COUNT};
+use crate::measure::{list_pass, pass, turns, Calls, Figures, COUNT};
 use crate::random::Random;
 
 pub struct Row {
@@ -50,24 +50,54 @@ impl Run {
         ours: impl Fn(T, u64) -> A + Copy,
         theirs: impl Fn(T, u64) -> A + Copy,
     ) {
-        if !self.chosen.contains(&format!("{}/{set}", self.operation)) {
-            return;
-        }
-        // A set's operands are the same for every operation that takes it, asked for alone or with others.
-        let mut random = Random::new(self.seed, stream(set));
-        let operands: Vec<T> = (0..COUNT).map(|_| draw(&mut random)).collect();
+        let Some(operands) = self.operands(set, draw) else { return };
         if self.operands_alone {
             let operation = self.operation.split('_').next().unwrap_or_default();
             self.requests.extend(operands.iter().map(|&operand| format!("{operation} {}\n", request(operand))));
             return;
         }
-        let differing = operands.iter().filter(|&&x| !ours(x, 0).same(theirs(x, 0))).count();
+        self.compare(set, operands.iter().filter(|&&x| !ours(x, 0).same(theirs(x, 0))).count());
+        for (calls, name) in [(Calls::Independent, "independent"), (Calls::Dependent, "dependent")] {
+            let (ours, theirs) = turns(self.passes, || pass(calls, &operands, ours), || pass(calls, &operands, theirs));
+            self.rows.push(Row { operation: self.operation, set, calls: name, ours, theirs });
+        }
+    }
+
+    /// The list call on one set: all of its operands are one list.
+    pub fn measure_list(
+        &mut self,
+        set: &'static str,
+        draw: fn(&mut Random) -> (u64,),
+        number: u32,
+        ours: impl Fn(&[u64], &mut [u64]) + Copy,
+        theirs: impl Fn(&[u64], &mut [u64]) + Copy,
+    ) {
+        let Some(operands) = self.operands(set, draw) else { return };
+        let input: Vec<u64> = operands.into_iter().map(|(x,)| x).collect();
+        let [mut output, mut other] = [vec![0; COUNT], vec![0; COUNT]];
+        if self.operands_alone {
+            let written = [&input, &output].map(|list| list.iter().map(|word| format!("{word:016x}")).collect::<Vec<_>>().join(","));
+            self.requests += &format!("list64 {number} {}\n", written.join(" "));
+            return;
+        }
+        ours(&input, &mut output);
+        theirs(&input, &mut other);
+        self.compare(set, output.iter().zip(&other).filter(|(one, other)| !one.same(**other)).count());
+        let (ours, theirs) = turns(self.passes, || list_pass(&input, &mut output, ours), || list_pass(&input, &mut other, theirs));
+        self.rows.push(Row { operation: self.operation, set, calls: "list", ours, theirs });
+    }
+
+    /// A set's operands, if the operation is asked for with this set. They are the same for every operation that takes the
+    /// set, asked for alone or with others.
+    fn operands<T>(&self, set: &str, draw: fn(&mut Random) -> T) -> Option<Vec<T>> {
+        let mut random = Random::new(self.seed, stream(set));
+        let is_chosen = self.chosen.contains(&format!("{}/{set}", self.operation));
+        is_chosen.then(|| (0..COUNT).map(|_| draw(&mut random)).collect())
+    }
+
+    fn compare(&mut self, set: &str, differing: usize) {
         if differing > 0 && (oracle::api::STATUSES || !self.operation.ends_with("_status")) {
             self.differences.push(format!("{} on {set}: {differing} of {COUNT}", self.operation));
-        }
-        for (calls, name) in [(Calls::Independent, "independent"), (Calls::Dependent, "dependent")] {
-            let (ours, theirs) = turns(calls, self.passes, &operands, ours, theirs);
-            self.rows.push(Row { operation: self.operation, set, calls: name, ours, theirs });
         }
     }
 }
