@@ -1,34 +1,22 @@
 -- The choice: the magnitude below and the place above it decide the rounding, whatever the way. Assumes nothing.
-use Prim.Native.Nat.{ℕ, zero, suc, _+_, _-_, _*_, _%_, _^_, _≤_, _<_}
+use Prim.Native.Nat.{ℕ, zero, suc, _+_, _*_, _%_, _≤_, _<_}
 use mathlib.Core.Path.{_≡_, refl, sym, ap, _∙_}
 use mathlib.Core.Bool.{Bool, true, false, not, cond}
 use native.Mathlib.Omega.{arith}
 use lib.Dec.{leb, ltb, eqb}
-use lib.Pow.{pow-pos, pow-mono}
-use Rattle.algebra.proofs.Products.{times-le}
 use Rattle.ieee.specs.Format.{Format, Fair, inf, units}
 use Rattle.ieee.specs.Exact.{Exact, Over, Under, over, under}
 use Rattle.ieee.specs.Round.{Way, even, away, shorter, longer, passes, rounded, middle}
 use Rattle.ieee.proofs.Decide.{Reads, so, not-so, is-true, is-false, alike, leb-reads}
 use Rattle.ieee.proofs.Sides.{Sound, over-reads, under-reads, over-zero, apart}
 use Rattle.ieee.proofs.Units.{units-rise, units-zero}
-use Rattle.ieee.proofs.Past.{Passes, Past, passes-reads, rounded-is, rounded-past, rounded-not-past, rounded-le}
-use Rattle.ieee.proofs.Local.{reached, not-yet}
+use Rattle.ieee.proofs.Past.{Past, passes-reads, rounded-is, rounded-past, rounded-not-past, rounded-le}
+use Rattle.ieee.proofs.Rule.{inf-pos}
+use Rattle.ieee.proofs.Local.{From, local}
 use Rattle.cuts.specs.Cut.{below, placeFrom, place, chosen}
+use Rattle.cuts.proofs.Parts.{place-most}
 
--- x is at least m, a finite magnitude, and below the next, if that is finite too
-pub record From (f : Format) (x : Exact) (m : ℕ) : Type 0 where
-  pub finite : m < inf f
-  pub low : Over x (2 * units f m)
-  pub high : suc m < inf f → Over x (2 * units f (suc m)) → ⊥
-
-pub inf-pos : (f : Format) → Fair f → 0 < inf f
-inf-pos f g =
-    let four : 2 ^ 2 ≤ 2 ^ f .expo = pow-mono (g .expo-two) in
-    let one : 1 ≤ 2 ^ f .expo - 1 = omega arith in
-    omega (arith, pow-pos (f .frac), times-le (2 ^ f .frac) one)
-
--- such a magnitude is the one below x
+-- a magnitude that x lies at, and before the next, is the one below x
 pub below-is : (f : Format) (x : Exact) → Sound x → (m : ℕ) → From f x m → below f x ≡ m
 unfolding below
 below-is f x s m b = rounded-is f shorter x s m (own m (b .finite) (b .low)) (λ p. b .high (strict (p .0) (p .1 .1)) (p .1 .0))
@@ -69,13 +57,7 @@ place-is f x m e = ap (λ n. placeFrom f n x) e
 pub place-le : (f : Format) (x : Exact) → place f x ≤ 3
 place-le f x =
     let m : ℕ = below f x in
-    rw (place-is f x m refl) (go (under x (2 * units f m)) (over x (middle f m)) (under x (middle f m)))
-  where
-    go : (a b c : Bool) → cond a 0 (cond b (cond c 2 3) 1) ≤ 3
-    go true b c = omega arith
-    go false true true = omega arith
-    go false true false = omega arith
-    go false false c = omega arith
+    rw (place-is f x m refl) (place-most (under x (2 * units f m)) (over x (middle f m)) (under x (middle f m)))
 
 -- a test that picks m or the next, as a sum
 step : (m : ℕ) {s t : Bool} → s ≡ t → cond s (suc m) m ≡ m + cond t 1 0
@@ -88,18 +70,6 @@ step m {s} {t} e = ap (λ (b : Bool). cond b (suc m) m) e ∙ go t
 flip : (m : ℕ) (t : Bool) → m + cond (not t) 1 0 ≡ m + cond t 0 1
 flip m true = refl
 flip m false = refl
-
--- one test decides: whether x is past the place between m and the next
-pub rounded-from : (f : Format) (w : Way) (x : Exact) → Sound x → (m : ℕ) → From f x m → rounded f w x ≡ cond (passes f w x m) (suc m) m
-rounded-from f w x s m b = go (passes-reads f w x m)
-  where
-    past-m : (m : ℕ) → m < inf f → Over x (2 * units f m) → Past f w x m
-    past-m zero l o = tt
-    past-m (suc j) l o = (omega arith, reached f w x s j l o)
-
-    go : {t : Bool} → Reads (Passes f w x m) t → rounded f w x ≡ cond t (suc m) m
-    go (so p) = rounded-is f w x s (suc m) (b .finite, p) (λ h. not-yet f w x (suc m) (b .high (h .0)) (h .1))
-    go (not-so n) = rounded-is f w x s m (past-m m (b .finite) (b .low)) (λ h. n (h .1))
 
 -- the place says how that test comes out
 module _ (f : Format) (x : Exact) (s : Sound x) (m : ℕ) (b : From f x m) where
@@ -149,4 +119,4 @@ module _ (f : Format) (x : Exact) (s : Sound x) (m : ℕ) (b : From f x m) where
 pub choice-rounds : (f : Format) → Fair f → (w : Way) (x : Exact) → Sound x → rounded f w x ≡ chosen w (below f x) (place f x)
 choice-rounds f g w x s =
     let b = below-from f g x in
-    rounded-from f w x s (below f x) b ∙ chosen-from f x s (below f x) b w ∙ ap (chosen w (below f x)) (sym (place-is f x (below f x) refl))
+    local f w x s (below f x) b ∙ chosen-from f x s (below f x) b w ∙ ap (chosen w (below f x)) (sym (place-is f x (below f x) refl))

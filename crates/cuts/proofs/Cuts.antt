@@ -12,12 +12,14 @@ use Rattle.algebra.proofs.Quotients.{div-mod}
 use Rattle.ieee.specs.Format.{Format, Fair, inf, units}
 use Rattle.ieee.specs.Exact.{Exact, ratio, Over, over, under}
 use Rattle.ieee.specs.Round.{middle}
+use Rattle.ieee.proofs.Rule.{inf-pos}
+use Rattle.ieee.proofs.Local.{From}
 use Rattle.ieee.proofs.Decide.{alike, leb-reads, eqb-reads, is-true, is-false}
 use Rattle.ieee.proofs.Sides.{Sound, over-reads, under-reads, over-down, apart}
 use Rattle.ieee.proofs.Units.{gap, gap-at, units-suc, units-at, units-inf, units-rise}
 use Rattle.cuts.specs.Cut.{below, placeFrom, place, part}
 use Rattle.cuts.proofs.Parts.{tells}
-use Rattle.cuts.proofs.Choices.{From, inf-pos, below-is, place-is}
+use Rattle.cuts.proofs.Choices.{below-is, place-is}
 
 -- x lies at the place p above the magnitude m
 abbrev pub Lies : Format → Exact → ℕ → ℕ → Type 0

@@ -30,11 +30,12 @@ all-gone s k p h =
     let (q, r) = div-is s (2 ^ k) 0 s (omega arith) (omega arith) in
     (q, ap (λ n. part n (2 ^ k)) r ∙ part-before s (2 ^ k) p h)
 
+-- a place is at most 3, whatever its tests say
+pub place-most : (a b c : Bool) → cond a 0 (cond b (cond c 2 3) 1) ≤ 3
+place-most true b c = omega arith
+place-most false true true = omega arith
+place-most false true false = omega arith
+place-most false false c = omega arith
+
 pub part-le : (r d : ℕ) → part r d ≤ 3
-part-le r d = go (eqb r 0) (leb d (2 * r)) (leb (2 * r) d)
-  where
-    go : (a b c : Bool) → cond a 0 (cond b (cond c 2 3) 1) ≤ 3
-    go true b c = omega arith
-    go false true true = omega arith
-    go false true false = omega arith
-    go false false c = omega arith
+part-le r d = place-most (eqb r 0) (leb d (2 * r)) (leb (2 * r) d)

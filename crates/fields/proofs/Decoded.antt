@@ -12,12 +12,12 @@ use Rattle.fields.proofs.Widths.{fields-small}
 pub units-subnormal : (f : Format) (x : ℕ) → field f x ≡ 0 → units f (magnitude f x) ≡ fraction f x
 units-subnormal f x h = units-of-fields f x ∙ ap (λ q. fields (2 ^ f .frac) q (fraction f x)) h
 
+pub fields-normal : (f : Format) (q r : ℕ) → 0 < q → fields (2 ^ f .frac) q r ≡ (2 ^ f .frac + r) * 2 ^ (q - 1)
+fields-normal f zero r l = absurd (omega arith)
+fields-normal f (suc q) r l = ap (λ j. (2 ^ f .frac + r) * 2 ^ j) (omega arith)
+
 pub units-normal : (f : Format) (x : ℕ) → 0 < field f x → units f (magnitude f x) ≡ (2 ^ f .frac + fraction f x) * 2 ^ (field f x - 1)
-units-normal f x l = units-of-fields f x ∙ go (field f x) (fraction f x) l
-  where
-    go : (q r : ℕ) → 0 < q → fields (2 ^ f .frac) q r ≡ (2 ^ f .frac + r) * 2 ^ (q - 1)
-    go zero r l = absurd (omega arith)
-    go (suc q) r l = ap (λ j. (2 ^ f .frac + r) * 2 ^ j) (omega arith)
+units-normal f x l = units-of-fields f x ∙ fields-normal f (field f x) (fraction f x) l
 
 module _ {p e : ℕ} (w : Fits p e) (x : ℕ) where
   pub significand-room : 2 ^ p + fraction (format p e) x < 2 ^ 63

@@ -1,13 +1,14 @@
 -- Patterns taken apart and put together: sign, magnitude, kind and value. Assumes nothing.
-use Prim.Native.Nat.{ℕ, suc, _+_, _-_, _%_, _≤_, _<_}
+use Prim.Native.Nat.{ℕ, suc, _+_, _-_, _%_, _^_, _≤_, _<_}
 use mathlib.Core.Path.{_≡_, refl, sym, ap, _∙_}
 use mathlib.Core.Bool.{Bool, true, false}
 use native.Mathlib.Nat.{mod-eq-of-lt}
 use native.Mathlib.Omega.{arith, both-ways}
 use borrow.Author.Tests.{lt-ltb, le-ltb, lt-leb, le-leb, eq-eqb, ne-eqb}
-use Rattle.algebra.proofs.Products.{order}
+use lib.Pow.{pow-add, pow-pos, pow-mono}
+use Rattle.algebra.proofs.Products.{order, diff}
 use Rattle.algebra.proofs.Quotients.{mod-is}
-use Rattle.ieee.specs.Format.{Format, top, inf, units}
+use Rattle.ieee.specs.Format.{Format, top, inf, canonical, units}
 use Rattle.ieee.specs.Pattern.{Pattern, minus, magnitude, signed, Kind, nan, infinite, finite, kind, withSign, value}
 use Rattle.ieee.proofs.Units.{units-zero, units-inj}
 use Rattle.ieee.proofs.Past.{inf-lt}
@@ -16,6 +17,13 @@ use Rattle.ieee.proofs.Past.{inf-lt}
 module _ (f : Format) where
   pub inf-below-top : inf f < top f
   inf-below-top = inf-lt f
+
+  -- infinity's pattern and one more exponent field are the sign bit
+  pub infinity-top : inf f + 2 ^ f .frac ≡ top f
+  infinity-top = omega (arith, diff (2 ^ f .frac) (pow-pos (f .expo)), pow-add 2 (f .frac) (f .expo))
+
+  pub canonical-pattern : Pattern f (canonical f)
+  canonical-pattern = omega (arith, infinity-top, pow-mono {i = f .frac - 1} {j = f .frac} (omega arith), pow-pos (f .frac))
 
   pub magnitude-signed : (s : Bool) (m : ℕ) → m < top f → magnitude f (signed f s m) ≡ m
   magnitude-signed false m l = ap (λ n. n % top f) (omega arith) ∙ mod-eq-of-lt l

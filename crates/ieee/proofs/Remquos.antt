@@ -71,11 +71,11 @@ rest-is f s m k n l a = order (suc u) w greater less
         (stands-rest f s s u w (u - w) (signed f s (exactly f (u - w))) (stands s (u - w) (omega arith)) (rw (unlike-self s) (omega arith)) (λ z. refl))
 
 -- ---- remquo
-remquo-finite : (f : Format) (x y u v : ℕ) → kind f x ≡ finite u → kind f y ≡ finite (suc v) → remquoOf f x y ≡ rest f (minus f x) u (whole even u (suc v) * suc v)
+pub remquo-finite : (f : Format) (x y u v : ℕ) → kind f x ≡ finite u → kind f y ≡ finite (suc v) → remquoOf f x y ≡ rest f (minus f x) u (whole even u (suc v) * suc v)
 unfolding remquoOf divide
 remquo-finite f x y u v p q = rw (p, q)
 
-quotient-finite : (f : Format) (x y u v : ℕ) → kind f x ≡ finite u → kind f y ≡ finite (suc v) → quotientOf f x y ≡ withSign (unlike (minus f x) (minus f y)) (whole even u (suc v) % 2 ^ 31)
+pub quotient-finite : (f : Format) (x y u v : ℕ) → kind f x ≡ finite u → kind f y ≡ finite (suc v) → quotientOf f x y ≡ withSign (unlike (minus f x) (minus f y)) (whole even u (suc v) % 2 ^ 31)
 unfolding quotientOf divide
 quotient-finite f x y u v p q = rw (p, q)
 

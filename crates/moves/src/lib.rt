@@ -13,6 +13,8 @@ use bits::pow;
 use fields::exponent_field;
 use fields::fraction_field;
 use fields::is_negative;
+use patterns::infinity;
+use patterns::nan;
 use rounding::round::settled;
 use shed::shed;
 
@@ -24,7 +26,7 @@ pub fn special(frac: u32, expo: u32, x: u64) -> u64
     if fraction_field(frac, expo, x) == 0 {
         return x;
     }
-    pow(frac + expo) - pow(frac - 1)
+    nan(frac, expo)
 }
 
 // x with another exponent field: from one normal number to another the fraction stays as it is.
@@ -42,7 +44,7 @@ pub fn past_largest(frac: u32, expo: u32, x: u64) -> u64
     ensures { λ r. ⌜ r ≡ signed (format frac expo) (minus (format frac expo) x) (chosen even (inf (format frac expo) - 1) 3) ⌝ }
 {
     let sign = is_negative(frac, expo, x);
-    settled(frac, expo, sign, pow(frac + expo) - pow(frac) - 1, 3)
+    settled(frac, expo, sign, infinity(frac, expo) - 1, 3)
 }
 
 // A normal x whose significand is to lose its last k bits: they go, and the rounding step settles it.

@@ -13,8 +13,8 @@ use Rattle.ieee.specs.Format.{Format, units, inf}
 use Rattle.ieee.specs.Pattern.{minus, signed, unlike, withSign, kind, finite}
 use Rattle.ieee.specs.Round.{even, exactly}
 use Rattle.ieee.specs.Whole.{whole}
-use Rattle.ieee.specs.Fmod.{divide}
 use Rattle.ieee.specs.Remquo.{rest, remquoOf, quotientOf}
+use Rattle.ieee.proofs.Remquos.{remquo-finite, quotient-finite}
 use Rattle.longdiv.specs.Nearest.{goesUp, counted, leftOver}
 use Rattle.longdiv.proofs.Middles.{left-at-most-rest}
 use Rattle.significands.specs.Significand.{unitsAt}
@@ -89,14 +89,6 @@ kept-alike q k b n e h = omega arith
 
 -- ---- remquo, where x is a and y is d at the place `at`, and rem and quo come of their division
 module _ (f : Format) (x y u w : ℕ) (is-x : kind f x ≡ finite u) (is-y : kind f y ≡ finite (suc w)) where
-  remquo-finite : remquoOf f x y ≡ rest f (minus f x) u (whole even u (suc w) * suc w)
-  unfolding remquoOf divide
-  remquo-finite = rw (is-x, is-y)
-
-  quotient-finite : quotientOf f x y ≡ withSign (unlike (minus f x) (minus f y)) (whole even u (suc w) % 2 ^ 31)
-  unfolding quotientOf divide
-  quotient-finite = rw (is-x, is-y)
-
   module _ (a d at rem quo : ℕ) (some : 0 < d) (first : u * 2 ^ f .frac ≡ a * 2 ^ at) (second : suc w * 2 ^ f .frac ≡ d * 2 ^ at) (is-rem : rem ≡ a % d) (is-quo : quo ≡ a / d % 2 ^ 32) where
     up-alike : goesUp rem d quo ≡ goesUp (a % d) d (a / d)
     up-alike = (λ i. goesUp (is-rem i) d (is-quo i)) ∙ tie-alike (a % d) d (a / d)
@@ -114,11 +106,11 @@ module _ (f : Format) (x y u w : ℕ) (is-x : kind f x ≡ finite u) (is-y : kin
     value-by-division =
         ap (λ t. signed f (unlike (minus f x) (goesUp rem d quo)) (exactly f (unitsAt t (pos (suc at) -ℤ pos (f .frac))))) left-alike
         ∙ sym (rest-of f (minus f x) u (suc w) a d at some first second (goesUp rem d quo) (whole even u (suc w)) number)
-        ∙ sym remquo-finite
+        ∙ sym (remquo-finite f x y u w is-x is-y)
 
     pub quotient-by-division : withSign (unlike (minus f x) (minus f y)) (counted rem d quo % 2 ^ 31) ≡ quotientOf f x y
     quotient-by-division =
-        ap (withSign (unlike (minus f x) (minus f y))) (kept-alike (a / d) quo (cond (goesUp rem d quo) 1 0) (whole even u (suc w)) is-quo number) ∙ sym quotient-finite
+        ap (withSign (unlike (minus f x) (minus f y))) (kept-alike (a / d) quo (cond (goesUp rem d quo) 1 0) (whole even u (suc w)) is-quo number) ∙ sym (quotient-finite f x y u w is-x is-y)
 
     pub left-below-infinity : u < units f (inf f) → unitsAt (leftOver rem d quo) (pos (suc at) -ℤ pos (f .frac)) < units f (inf f)
     left-below-infinity l =

@@ -8,9 +8,10 @@ ghost use Rattle.ieee.specs.Remquo.{remquoOf, quotientOf};
 ghost use Rattle.fields.specs.Width.{format, Fits};
 ghost use Rattle.sorting.specs.Rows.{noRemainder};
 use crate::answer::Remquo64;
-use bits::pow;
 use fields::is_negative;
 use longdiv::divided;
+use patterns::infinity;
+use patterns::magnitude_of;
 use settling::Remquo;
 use settling::settled;
 use significands::ahead;
@@ -48,15 +49,13 @@ fn of_finite(frac: u32, expo: u32, x: u64, y: u64) -> Remquo
     requires { ⌜ Fits frac expo × Pattern (format frac expo) x × (noRemainder (format frac expo) x y ≡ false) ⌝ }
     ensures { λ r. ⌜ (r .value ≡ remquoOf (format frac expo) x y) × (r .quotient ≡ quotientOf (format frac expo) x y) ⌝ }
 {
-    let top = pow(frac + expo);
-    let inf = top - pow(frac);
-    if y % top == inf {
+    if magnitude_of(frac, expo, y) == infinity(frac, expo) {
         return Remquo {
             value: x,
             quotient: 0,
         };
     }
-    if x % top == 0 {
+    if magnitude_of(frac, expo, x) == 0 {
         return Remquo {
             value: x,
             quotient: 0,

@@ -10,13 +10,12 @@ use Rattle.ieee.specs.Pattern.{Pattern, magnitude, minus, signed, unlike, Kind,
 use Rattle.ieee.specs.Round.{ties-to-even}
 use Rattle.ieee.specs.Fma.{times as times-kinds, sumOf, zeroSum, plusBy, fmaIn, fmaOf}
 use Rattle.ieee.proofs.Units.{units-zero, units-lt}
-use Rattle.ieee.proofs.Patterns.{inf-below-top, pattern-signed, kind-nan, kind-infinite, kind-finite, signed-is}
+use Rattle.ieee.proofs.Patterns.{inf-below-top, canonical-pattern, pattern-signed, kind-nan, kind-infinite, kind-finite, signed-is}
 use Rattle.ieee.proofs.Attributes.{answer-pattern}
 use Rattle.ieee.proofs.Fmas.{InfiniteProduct, of-both, of-first, of-second, productSign, against, FmaRows, fma-rows}
 use Rattle.fields.specs.Width.{format, Fits}
 use Rattle.norms.proofs.Asides.{set-aside}
 use Rattle.rows.specs.Special.{Special}
-use Rattle.patterns.proofs.Numbers.{canonical-pattern}
 
 -- ---- kinds, by magnitudes
 zero-kind : (f : Format) (x : ℕ) → 0 < inf f → magnitude f x ≡ 0 → kind f x ≡ finite 0
@@ -136,14 +135,14 @@ module _ {p e : ℕ} (w : Fits p e) where
 
   plus-pattern : (s : Bool) (k : Kind) (t : Bool) (l : Kind) → Pattern (format p e) (plusBy (format p e) ties-to-even s k t l)
   unfolding plusBy
-  plus-pattern s nan t l = canonical-pattern w
-  plus-pattern s infinite t nan = canonical-pattern w
+  plus-pattern s nan t l = canonical-pattern (format p e)
+  plus-pattern s infinite t nan = canonical-pattern (format p e)
   plus-pattern false infinite false infinite = plain-infinity false
-  plus-pattern false infinite true infinite = canonical-pattern w
-  plus-pattern true infinite false infinite = canonical-pattern w
+  plus-pattern false infinite true infinite = canonical-pattern (format p e)
+  plus-pattern true infinite false infinite = canonical-pattern (format p e)
   plus-pattern true infinite true infinite = plain-infinity true
   plus-pattern s infinite t (finite v) = plain-infinity s
-  plus-pattern s (finite u) t nan = canonical-pattern w
+  plus-pattern s (finite u) t nan = canonical-pattern (format p e)
   plus-pattern s (finite u) t infinite = plain-infinity t
   plus-pattern s (finite u) t (finite v) = answer-pattern (format p e) (w .fair) ties-to-even (cond (unlike s t) (zeroSum ties-to-even) s) (sumOf (format p e) s u t v)
 

@@ -1,25 +1,25 @@
 -- scalbn by the exponent field and the fraction of x: the rows, the way from one normal number to another, and the rounding step's. Assumes nothing.
-use Prim.Native.Nat.{ℕ, zero, suc, _+_, _-_, _*_, _/_, _%_, _^_, _≤_, _<_, min}
+use Prim.Native.Nat.{ℕ, suc, _+_, _-_, _*_, _/_, _%_, _^_, _≤_, _<_, min}
 use mathlib.Core.Path.{_≡_, refl, sym, ap, ap₂, _∙_, subst}
 use mathlib.Core.Bool.{Bool, true, false, cond}
 use native.Mathlib.Nat.{two-pow-succ}
 use native.Mathlib.Omega.{arith}
 use lib.Arith.{digits-lt}
-use lib.Pow.{pow-add, pow-pos, pow-mono, pow-lt}
+use lib.Pow.{pow-add, pow-pos, pow-mono}
 use lib.Dec.{eqb}
 use lib.IntN.{ℤ, pos, negsuc, _+ℤ_}
 use lib.Signed.{mag}
 use borrow.Author.Tests.{eq-eqb, ne-eqb}
-use Rattle.algebra.proofs.Products.{order, times, times-le, le-split}
+use Rattle.algebra.proofs.Products.{order, times, times-le}
 use Rattle.algebra.proofs.Quotients.{div-mod}
 use Rattle.algebra.proofs.Integers.{up, dn, addZ, eqZ, eqZ-fact}
-use Rattle.ieee.specs.Format.{Format, Fair, inf, units, fields, canonical, top}
+use Rattle.ieee.specs.Format.{Format, Fair, inf, units, canonical}
 use Rattle.ieee.specs.Pattern.{Pattern, minus, magnitude, field, fraction, signed}
 use Rattle.ieee.specs.Exact.{ratio}
 use Rattle.ieee.specs.Round.{Attribute, ties-to-even, even, answer}
 use Rattle.ieee.specs.Scalbn.{scaled, reach, clamp, scalbnBy, scalbnIn, scalbnOf}
 use Rattle.ieee.proofs.Units.{units-at, units-lt}
-use Rattle.ieee.proofs.Patterns.{signed-is}
+use Rattle.ieee.proofs.Patterns.{signed-is, infinity-top, canonical-pattern}
 use Rattle.ieee.proofs.Fields.{magnitude-fields, fraction-small, field-small, units-of-fields, field-finite, kind-by-field, infinite-by-field, nan-by-field}
 use Rattle.ieee.proofs.Decide.{split, eqb-reads}
 use Rattle.ieee.proofs.Exacts.{sign-own, answer-held}
@@ -31,7 +31,7 @@ use Rattle.cuts.specs.Cut.{part, stretched, chosen}
 use Rattle.cuts.proofs.Cuts.{Lies, cut-over, cut-subnormal}
 use Rattle.cuts.proofs.Parts.{all-gone}
 use Rattle.fields.proofs.Widths.{fields-small}
-use Rattle.fields.proofs.Decoded.{units-subnormal, units-normal}
+use Rattle.fields.proofs.Decoded.{fields-normal, units-subnormal, units-normal}
 use Rattle.exponents.specs.Field.{above, depthOf}
 use Rattle.scales.specs.Normal.{Normal, fullOf, movedTo}
 use Rattle.exponents.proofs.Exponents.{clamp-mag}
@@ -77,18 +77,14 @@ module _ (f : Format) (x : ℕ) (n : ℤ) where
       let U = 2 ^ f .frac in
       let small = fraction-small f x in
       let m : ℕ = t * U + r′ in
-      let ux : units f (magnitude f x) ≡ (U + r′) * 2 ^ (F - 1) = units-of-fields f x ∙ by-pred F r′ p in
-      let um : units f m ≡ (U + r′) * 2 ^ (t - 1) = units-at f t r′ small ∙ by-pred t r′ q in
+      let ux : units f (magnitude f x) ≡ (U + r′) * 2 ^ (F - 1) = units-of-fields f x ∙ fields-normal f F r′ p in
+      let um : units f m ≡ (U + r′) * 2 ^ (t - 1) = units-at f t r′ small ∙ fields-normal f t r′ q in
       let (a, b) = eqZ-fact e in
       let level : 2 ^ (F - 1) * 2 ^ up n ≡ 2 ^ (t - 1) * 2 ^ dn n =
       sym (pow-add 2 (F - 1) (up n)) ∙ ap (λ k. 2 ^ k) (omega (arith, a, b, addZ n (pos F))) ∙ pow-add 2 (t - 1) (dn n) in
       scaled-held f ties-to-even (minus f x) (units f (magnitude f x)) m n (digits-lt h small)
       (omega (arith, times (2 ^ up n) ux, times (2 ^ dn n) um, times (U + r′) level))
       ∙ omega (arith, signed-is f x r, magnitude-fields f x)
-    where
-      by-pred : (k r : ℕ) → 0 < k → fields (2 ^ f .frac) k r ≡ (2 ^ f .frac + r) * 2 ^ (k - 1)
-      by-pred zero r l = absurd (omega arith)
-      by-pred (suc k) r l = ap (λ j. (2 ^ f .frac + r) * 2 ^ j) (omega arith)
 
 -- ---- subnormal numbers and zeros, through the rounding step
 pub scalbn-subnormal : (f : Format) → Fair f → (x : ℕ) (n : ℤ) → field f x ≡ 0 →
@@ -159,32 +155,8 @@ module _ (f : Format) (g : Fair f) (x : ℕ) (n : ℤ) (i : Normal f x) where
       go (pos t) w b q = let (u, v) = eqZ-fact w in low-answer 0 d (less-one (negsuc 0) (omega arith)) (omega arith) h
       go (negsuc t) w b q = let (u, v) = eqZ-fact w in low-answer (suc t) d (less-one (negsuc (suc t)) (omega arith)) (omega arith) h
 
--- infinity's pattern and one more exponent field are the sign bit
-infinity-top : (f : Format) → inf f + 2 ^ f .frac ≡ top f
-infinity-top f =
-    let (t, q) = le-split {a = 1} {b = 2 ^ f .expo} (pow-pos (f .expo)) in
-    let r : 2 ^ f .expo - 1 ≡ t = omega arith in
-    rw r (omega (arith, pow-add 2 (f .frac) (f .expo), times {a = 2 ^ f .expo} {b = t + 1} (2 ^ f .frac) (omega arith)))
-
 -- ---- what fits in a word
 module _ {p e : ℕ} (w : Fits p e) where
-  two-halves : 2 ^ p ≡ 2 ^ (p - 1) + 2 ^ (p - 1)
-  two-halves = ap (λ k. 2 ^ k) (omega (arith, w .fair .frac-pos)) ∙ two-pow-succ (p - 1)
-
-  -- the canonical NaN, as a difference of two bits
-  pub canonical-is : 2 ^ (p + e) - 2 ^ (p - 1) ≡ canonical (format p e)
-  canonical-is = omega (arith, infinity-top (format p e), two-halves)
-
-  pub canonical-room : 2 ^ (p - 1) ≤ 2 ^ (p + e)
-  canonical-room = pow-mono {i = p - 1} {j = p + e} (omega arith)
-
-  -- and the largest number
-  pub largest-is : 2 ^ (p + e) - 2 ^ p - 1 ≡ inf (format p e) - 1
-  largest-is = omega (arith, infinity-top (format p e))
-
-  pub largest-room : 2 ^ p < 2 ^ (p + e)
-  largest-room = pow-lt {i = p} {j = p + e} (omega (arith, w .fair .expo-two))
-
   -- what is left of a significand that loses its last bits
   pub fallen-room : (x k : ℕ) → 1 ≤ k → fullOf (format p e) x / 2 ^ k < inf (format p e)
   fallen-room x k l =
@@ -227,9 +199,6 @@ scalbn-pattern f g x n h =
     (λ l. rw (scalbn-finite f x n l) (answer-pattern f g ties-to-even (minus f x) (scaled (minus f x) (units f (magnitude f x)) (clamp (reach f) n))))
     (λ l. subst (Pattern f) (scalbn-special f x n (omega (arith, field-small f x))) (either (eqb (fraction f x) 0)))
   where
-    canonical-pattern : Pattern f (canonical f)
-    canonical-pattern = omega (arith, infinity-top f, pow-mono {i = f .frac - 1} {j = f .frac} (omega arith), pow-pos (f .frac))
-
     either : (b : Bool) → Pattern f (cond b x (canonical f))
     either true = h
-    either false = canonical-pattern
+    either false = canonical-pattern f

@@ -1,12 +1,17 @@
--- Infinity's pattern and one more exponent field are the sign bit (Numbers). Assumes nothing.
+-- Infinity's pattern and one more exponent field are the sign bit (ieee: Patterns). Assumes nothing.
 use native.Mathlib.Omega.{arith}
 use borrow.Author.Needs.{needs}
-use Rattle.patterns.proofs.Numbers.{infinity-top}
+use Rattle.ieee.specs.Format.{Format}
+use Rattle.ieee.proofs.Patterns.{infinity-top}
+use Rattle.fields.specs.Width.{format}
 use Rattle.patterns.proofs.infinity.Statement.{statement}
 use Rattle.patterns.proofs.infinity.Tie as tie
 
+abbrev fmt : tie.Start → Format
+fmt s = format (s .args .frac) (s .args .expo)
+
 returns : tie.Need-returns
-returns c = omega (arith, c .before .pow .ensures, c .pow2 .ensures, infinity-top (c .before .before .pre))
+returns c = omega (arith, c .before .pow .ensures, c .pow2 .ensures, infinity-top (fmt (c .before .before)))
 
 add-pow : tie.Need-add-pow
 add-pow c = search needs
@@ -18,7 +23,7 @@ pow-requires-2 : tie.Need-pow-requires-2
 pow-requires-2 c κs = search needs
 
 sub-result : tie.Need-sub-result
-sub-result c = omega (arith, c .before .pow .ensures, c .pow2 .ensures, infinity-top (c .before .before .pre))
+sub-result c = omega (arith, c .before .pow .ensures, c .pow2 .ensures, infinity-top (fmt (c .before .before)))
 
 pub infinity-spec : {M : Type 1} → statement M
 infinity-spec = tie.close (tie.spec add-pow pow-requires pow-requires-2 sub-result returns)

@@ -1,9 +1,11 @@
--- The sum is the definition's, and stays below the sign bit (Numbers). Assumes nothing.
+-- The sum is the definition's, and stays below the sign bit (ieee: Patterns). Assumes nothing.
 use Prim.Native.Nat.{_-_}
 use native.Mathlib.Omega.{arith}
 use borrow.Author.Needs.{needs}
 use lib.Pow.{pow-mono}
-use Rattle.patterns.proofs.Numbers.{infinity-top, top-room}
+use Rattle.ieee.proofs.Patterns.{infinity-top}
+use Rattle.fields.specs.Width.{format}
+use Rattle.patterns.proofs.Numbers.{top-room}
 use Rattle.patterns.proofs.nan.Statement.{statement}
 use Rattle.patterns.proofs.nan.Tie as tie
 
@@ -23,7 +25,7 @@ add-result : tie.Need-add-result
 add-result c =
     let s = c .before .before in
     let m = pow-mono {i = s .args .frac - 1} {j = s .args .frac} (omega arith) in
-    record { fits = omega (arith, c .before .infinity .ensures, c .pow .ensures, infinity-top (s .pre), top-room (s .pre)) }
+    record { fits = omega (arith, c .before .infinity .ensures, c .pow .ensures, infinity-top (format (s .args .frac) (s .args .expo)), top-room (s .pre)) }
 
 pub nan-spec : {M : Type 1} → statement M
 nan-spec = tie.close (tie.spec infinity-requires sub-pow pow-requires add-result returns)

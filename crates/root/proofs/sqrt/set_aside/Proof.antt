@@ -5,9 +5,10 @@ use borrow.Author.Needs.{needs}
 use lib.Pow.{pow-add}
 use Rattle.algebra.proofs.Products.{times-le}
 use Rattle.ieee.specs.Format.{Format, inf}
+use Rattle.ieee.proofs.Patterns.{infinity-top}
 use Rattle.fields.specs.Width.{format}
 use Rattle.fields.proofs.Widths.{four-fields}
-use Rattle.patterns.proofs.Numbers.{infinity-top, top-room}
+use Rattle.patterns.proofs.Numbers.{top-room}
 use Rattle.root.proofs.Asides.{aside-test}
 use Rattle.root.proofs.sqrt.set_aside.Statement.{statement}
 use Rattle.root.proofs.sqrt.set_aside.Tie as tie
@@ -21,7 +22,7 @@ module _ (c : tie.After-infinity) where
 
   -- there are normal numbers
   least-below : 2 ^ s .args .frac ≤ inf f
-  least-below = omega (arith, infinity-top (s .pre), pow-add 2 (s .args .frac) (s .args .expo), times-le (2 ^ s .args .frac) (four-fields (s .pre)))
+  least-below = omega (arith, infinity-top f, pow-add 2 (s .args .frac) (s .args .expo), times-le (2 ^ s .args .frac) (four-fields (s .pre)))
 
 returns : tie.Need-returns
 returns c =
