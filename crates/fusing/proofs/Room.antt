@@ -1,7 +1,6 @@
 -- How large the counts and the exponents of a fused sum are: the sum has frac + 3 + l bits, which is 119 at 64 bits with l = 64, and 64 at 32 bits with l = 38. Assumes nothing.
 use Prim.Native.Nat.{ℕ, suc, _+_, _-_, _*_, _^_, _≤_, _<_, min}
 use mathlib.Core.Path.{_≡_, ap, _∙_}
-use mathlib.Core.Bool.{Bool, true, false}
 use native.Mathlib.Nat.{two-pow-succ, mul-le-mul}
 use native.Mathlib.Omega.{arith}
 use lib.Pow.{pow-add, pow-pos, pow-mono}
@@ -18,7 +17,7 @@ use Rattle.significands.proofs.Significands.{normal-is}
 use Rattle.norms.specs.Norm.{placeOf}
 use Rattle.norms.proofs.Asides.{Ordinary}
 use Rattle.norms.proofs.Places.{place-bounds, unbias-small}
-use Rattle.fusing.specs.Aligned.{productAt, thirdAt, downBy, joined}
+use Rattle.fusing.specs.Aligned.{productAt, thirdAt, downBy}
 use Rattle.fusing.specs.Fused.{productSig, thirdSig, aboveBy, fusedPlace}
 
 -- ---- counts
@@ -34,10 +33,6 @@ pub third-le : (l q : ℕ) (d : ℤ) → thirdAt l q d ≤ q * 2 ^ l
 unfolding thirdAt
 third-le l q (pos n) = omega (arith, times-le q (pow-mono {i = min n l} {j = l} (omega arith)))
 third-le l q (negsuc n) = omega (arith, stuck-le q (suc n), times-le q (pow-pos l))
-
-pub joined-le : (u : Bool) (a b : ℕ) → joined u a b ≤ a + b
-joined-le false a b = omega arith
-joined-le true a b = omega arith
 
 pub sig-most : (f : Format) (g : Fair f) (v : ℕ) → Ordinary f v → sigOf f v < 2 * 2 ^ f .frac
 sig-most f g v o = let (at, n) = normal-is f g v (o .least) in n .most
