@@ -1,5 +1,6 @@
-// The operations: their names, what they take and what they give. To add one, add its row to `row_of` and its call to `answer_of`
-// (crates/replies/src/call.rt), under the next number, and its line to the table below, which `./pk --help` prints.
+// The operations: their names, what they take and what they give. To add one, add its row to `row_of`, its call to `answer_of`
+// (crates/replies/src/call.rt) and to the definition that holds it (crates/replies/specs/Calls.antt), under the next number, and its line to the
+// table below, which `./pk --help` prints.
 //
 //   floor64 X           floor64 c004000000000000                      the greatest whole number that is not above X
 //   floor32 X           floor32 bf000000

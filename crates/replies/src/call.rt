@@ -1,8 +1,13 @@
 // The calls: each operation of the face under its number.
+ghost use mathlib.Core.Path.{_≡_};
+ghost use Rattle.operations.specs.declared.Answer.{Answer};
+ghost use Rattle.replies.specs.Calls.{lowOf, answerOf};
 use operations::Answer;
 use operations::Operands;
 
-pub fn answer_of(op: usize, a: Operands) -> Answer {
+pub fn answer_of(op: usize, a: Operands) -> Answer
+    ensures { λ r. ⌜ r ≡ answerOf op a ⌝ }
+{
     match op {
         0 => status64(paskerotim::floor64_status(a.x)),
         1 => status32(paskerotim::floor32_status(low(a.x))),
@@ -24,34 +29,50 @@ pub fn answer_of(op: usize, a: Operands) -> Answer {
 }
 
 // A word of 32 bits, or a number of the range of one. It was read from eight digits, or within the range, so that nothing is lost.
-fn low(x: u64) -> u32 {
+fn low(x: u64) -> u32
+    ensures { λ r. ⌜ r ≡ lowOf x ⌝ }
+{
     (x % 4294967296) as u32
 }
 
-fn word64(r: u64) -> Answer {
+fn word64(r: u64) -> Answer
+    ensures { λ a. ⌜ a ≡ Answer.Word r 16 ⌝ }
+{
     Answer::Word(r, 16)
 }
 
-fn word32(r: u32) -> Answer {
+fn word32(r: u32) -> Answer
+    ensures { λ a. ⌜ a ≡ Answer.Word r 8 ⌝ }
+{
     Answer::Word(r as u64, 8)
 }
 
-fn status64(r: paskerotim::FpResult64) -> Answer {
+fn status64(r: paskerotim::FpResult64) -> Answer
+    ensures { λ a. ⌜ a ≡ Answer.WithStatus (r .val) 16 (r .status) ⌝ }
+{
     Answer::WithStatus(r.val, 16, r.status)
 }
 
-fn status32(r: paskerotim::FpResult32) -> Answer {
+fn status32(r: paskerotim::FpResult32) -> Answer
+    ensures { λ a. ⌜ a ≡ Answer.WithStatus (r .val) 8 (r .status) ⌝ }
+{
     Answer::WithStatus(r.val as u64, 8, r.status)
 }
 
-fn quotient64(r: paskerotim::Remquo64) -> Answer {
+fn quotient64(r: paskerotim::Remquo64) -> Answer
+    ensures { λ a. ⌜ a ≡ Answer.WithQuotient (r .value) 16 (r .quotient) ⌝ }
+{
     Answer::WithQuotient(r.value, 16, r.quotient)
 }
 
-fn refusal64(r: paskerotim::Reduced64) -> Answer {
+fn refusal64(r: paskerotim::Reduced64) -> Answer
+    ensures { λ a. ⌜ a ≡ Answer.AfterRefusal (r .refusal) (r .value) 16 ⌝ }
+{
     Answer::AfterRefusal(r.refusal as u64, r.value, 16)
 }
 
-fn refusal32(r: paskerotim::Reduced32) -> Answer {
+fn refusal32(r: paskerotim::Reduced32) -> Answer
+    ensures { λ a. ⌜ a ≡ Answer.AfterRefusal (r .refusal) (r .value) 8 ⌝ }
+{
     Answer::AfterRefusal(r.refusal as u64, r.value as u64, 8)
 }
