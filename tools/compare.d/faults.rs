@@ -139,7 +139,7 @@ fn each_fault_is_met() {
             let operation = operation_of(row);
             let is_met = |request: &Request| {
                 let exact = Answer::exact(operation, request);
-                let mut answer = exact.clone();
+                let mut answer = exact;
                 spoil(operation.format, request, &mut answer);
                 answer != exact
             };

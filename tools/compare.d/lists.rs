@@ -6,7 +6,7 @@ use crate::cases::Requests;
 use crate::format::WIDTH_64;
 use crate::lines::{write_fields, write_request};
 use crate::list_shapes::{FOR_LISTS, Shape};
-use crate::operations::{self, Operation};
+use crate::operations::{self, Field, Operation};
 use crate::random::Random;
 use crate::request::{Answer, Request};
 use crate::run::{PRINTED, Run, Spoiled, caught, operation_of};
@@ -225,16 +225,21 @@ pub fn print_lines(seed: u64, count: u64) {
     let mut seen = HashSet::new();
     while (seen.len() as u64) < count {
         let fields = requests.next();
-        let Request { number, lists: [input, output], .. } = Request::of_fields(&fields);
-        let shape = Shape { number: number as u32, lengths: [input.len(), output.len()] };
-        let list = match (refusal(shape), row_of(shape.number)) {
-            (0, Some(row)) => input.iter().map(|x| by_the_crate(row, *x)).collect(),
-            _ => output,
-        };
-        let answer = Answer { number: refusal(shape).into(), list, ..Answer::default() };
         let text = write_request(operation(), &fields);
-        if seen.insert(text.clone()) {
-            println!("{text} -> {}", write_fields(operation(), &answer.fields(operation())));
+        if let [Field::Unsigned(number), Field::Words(input), Field::Words(output)] = &fields[..] {
+            let answer = write_fields(operation(), &answered(*number, input, output));
+            if seen.insert(text.clone()) {
+                println!("{text} -> {answer}");
+            }
         }
     }
+}
+
+fn answered(number: u32, input: &[u64], output: &[u64]) -> [Field; 2] {
+    let refused = refusal(Shape { number, lengths: [input.len(), output.len()] });
+    let list = match (refused, row_of(number)) {
+        (0, Some(row)) => input.iter().map(|x| by_the_crate(row, *x)).collect(),
+        _ => output.to_vec(),
+    };
+    [Field::Unsigned(refused), Field::Words(list)]
 }

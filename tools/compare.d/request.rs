@@ -1,22 +1,21 @@
-//! A request and an answer as plain numbers, cheap enough for billions of them, and the same as fields of a line.
+//! A request and an answer as plain numbers, cheap enough for billions of them, and the same as fields of a line. Those of
+//! the list call are its own.
 
 use crate::answers::judge;
 use crate::operations::{Field, INEXACT, INVALID, Kind, OK, Operation, Status};
 
-/// Words, at most one decimal number, and lists, each in the order of the line.
-#[derive(Clone, Debug, Default, PartialEq, Eq)]
+/// Words, each in the order of the line, and at most one decimal number.
+#[derive(Clone, Copy, Debug, Default, PartialEq, Eq)]
 pub struct Request {
     pub words: [u64; 3],
     pub number: i64,
-    pub lists: [Vec<u64>; 2],
 }
 
-/// The word, the number beside it (a status by its number, a quotient, a refusal) and the list of an answer.
-#[derive(Clone, Debug, Default, PartialEq, Eq)]
+/// The word, and the number beside it: a status by its number, a quotient, a refusal.
+#[derive(Clone, Copy, Debug, Default, PartialEq, Eq)]
 pub struct Answer {
     pub word: u64,
     pub number: i64,
-    pub list: Vec<u64>,
 }
 
 impl Request {
@@ -62,7 +61,7 @@ impl Request {
 
     pub fn of_fields(fields: &[Field]) -> Request {
         let mut request = Request::default();
-        let (mut words, mut lists) = (0, 0);
+        let mut words = 0;
         for field in fields {
             match field {
                 Field::Word(word) => {
@@ -71,24 +70,21 @@ impl Request {
                 }
                 Field::Signed(number) => request.number = (*number).into(),
                 Field::Unsigned(number) => request.number = (*number).into(),
-                Field::Words(list) => {
-                    request.lists[lists] = list.clone();
-                    lists += 1;
+                Field::Words(_) | Field::Status(_) => {
+                    unreachable!("no operand is a list or a status")
                 }
-                Field::Status(_) => unreachable!("no operand is a status"),
             }
         }
         request
     }
 
     pub fn fields(&self, operation: &Operation) -> Vec<Field> {
-        let (mut words, mut lists) = (self.words.iter(), self.lists.iter());
+        let mut words = self.words.iter();
         let field = |kind: &Kind| match kind {
             Kind::Word => words.next().map(|word| Field::Word(*word)),
             Kind::Signed => Some(Field::Signed(self.number as i32)),
             Kind::Unsigned => Some(Field::Unsigned(self.number as u32)),
-            Kind::Words => lists.next().map(|list| Field::Words(list.clone())),
-            Kind::Status => None,
+            Kind::Words | Kind::Status => None,
         };
         operation.operand_kinds().iter().filter_map(field).collect()
     }
@@ -124,7 +120,7 @@ impl Answer {
                 Field::Signed(number) => answer.number = number.into(),
                 Field::Unsigned(number) => answer.number = number.into(),
                 Field::Status(status) => answer.number = number_of(status),
-                Field::Words(list) => answer.list = list,
+                Field::Words(_) => unreachable!("no answer is a list"),
             }
         }
         answer
@@ -132,13 +128,13 @@ impl Answer {
 
     pub fn fields(&self, operation: &Operation) -> Vec<Field> {
         let field = |kind: &Kind| match kind {
-            Kind::Word => Field::Word(self.word),
-            Kind::Signed => Field::Signed(self.number as i32),
-            Kind::Unsigned => Field::Unsigned(self.number as u32),
-            Kind::Words => Field::Words(self.list.clone()),
-            Kind::Status => Field::Status(status_of(self.number)),
+            Kind::Word => Some(Field::Word(self.word)),
+            Kind::Signed => Some(Field::Signed(self.number as i32)),
+            Kind::Unsigned => Some(Field::Unsigned(self.number as u32)),
+            Kind::Status => Some(Field::Status(status_of(self.number))),
+            Kind::Words => None,
         };
-        operation.answer_kinds().iter().map(field).collect()
+        operation.answer_kinds().iter().filter_map(field).collect()
     }
 }
 

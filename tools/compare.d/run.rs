@@ -175,7 +175,7 @@ impl Run {
 pub fn same(nans: Nans, operation: &Operation, ours: &Answer, crates: &Answer) -> bool {
     let word_same = ours.word == nans.ours(operation.format, crates.word);
     let number_same = ours.number == crates.number || leaves_status_out(operation);
-    word_same && number_same && ours.list == crates.list
+    word_same && number_same
 }
 
 /// The later text of the crate has other statuses, so they count only where the given text decides them.
