@@ -1,10 +1,17 @@
-// Writing what is wrong with a line that is no request.
+// Writing what is wrong with a line.
 use lines::Fault;
 use lines::write_bytes;
 use lines::write_unsigned;
 use operations::Complaint;
 use operations::Kind;
 use operations::write_names;
+
+// What every complaint begins with.
+pub fn write_start(out: &mut [u8], at: usize, number: u64) -> usize {
+    let end = write_bytes(out, at, b"error: line ");
+    let next = write_unsigned(out, end, number);
+    write_bytes(out, next, b": ")
+}
 
 fn write_kind(out: &mut [u8], at: usize, kind: Kind) -> usize {
     match kind {
@@ -16,7 +23,14 @@ fn write_kind(out: &mut [u8], at: usize, kind: Kind) -> usize {
     }
 }
 
-fn write_fault(out: &mut [u8], at: usize, fault: Fault, size: usize) -> usize {
+// And what it ends with: how the field is to be written.
+pub fn write_expected(out: &mut [u8], at: usize, kind: Kind) -> usize {
+    let end = write_bytes(out, at, b"; expected ");
+    write_kind(out, end, kind)
+}
+
+// What is wrong with a field of `size` characters.
+pub fn write_fault(out: &mut [u8], at: usize, fault: Fault, size: usize) -> usize {
     match fault {
         Fault::WrongLength => {
             let end = write_bytes(out, at, b"has ");
@@ -42,8 +56,8 @@ fn write_place(out: &mut [u8], at: usize, place: u64) -> usize {
 
 fn write_missing(out: &mut [u8], at: usize, kind: Kind, place: u64) -> usize {
     let end = write_place(out, at, place);
-    let next = write_bytes(out, end, b"is missing; expected ");
-    write_kind(out, next, kind)
+    let next = write_bytes(out, end, b"is missing");
+    write_expected(out, next, kind)
 }
 
 fn write_extra(out: &mut [u8], at: usize, count: u64) -> usize {
@@ -66,10 +80,10 @@ fn write_operand(
 ) -> usize {
     let end = write_place(out, at, place);
     let next = write_fault(out, end, fault, size);
-    let last = write_bytes(out, next, b"; expected ");
-    write_kind(out, last, kind)
+    write_expected(out, next, kind)
 }
 
+// What is wrong with a line that is no request.
 pub fn write_complaint(out: &mut [u8], at: usize, complaint: Complaint) -> usize {
     match complaint {
         Complaint::TooLong => write_bytes(

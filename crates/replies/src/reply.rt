@@ -2,10 +2,10 @@
 use crate::call::answer_of;
 use answers::write_answer;
 use complaints::write_complaint;
+use complaints::write_start;
 use lines::find_arrow;
 use lines::part;
 use lines::write_bytes;
-use lines::write_unsigned;
 use operations::Complaint;
 use operations::ROWS;
 use requests::Request;
@@ -19,11 +19,9 @@ pub struct Reply {
 }
 
 fn complain(out: &mut [u8], at: usize, number: u64, complaint: Complaint) -> Reply {
-    let end = write_bytes(out, at, b"error: line ");
-    let next = write_unsigned(out, end, number);
-    let last = write_bytes(out, next, b": ");
+    let end = write_start(out, at, number);
     Reply {
-        end: write_complaint(out, last, complaint),
+        end: write_complaint(out, end, complaint),
         is_bad: true,
         op: ROWS,
     }
