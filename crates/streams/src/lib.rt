@@ -2,6 +2,10 @@
 use libc::STDERR_FILENO;
 use libc::STDIN_FILENO;
 use libc::STDOUT_FILENO;
+use lines::Field;
+
+// Where a number that says what to do comes from.
+const ORDER: i32 = 5;
 
 // Where the number of bad lines goes. Without that number the run did not come to its end.
 const VERDICT: i32 = 3;
@@ -19,6 +23,11 @@ pub struct Streams {
 pub struct Taken {
     pub streams: Streams,
     pub count: usize,
+}
+
+pub enum Asked {
+    Number(u32),
+    Nothing,
 }
 
 pub fn opened() -> Streams {
@@ -94,4 +103,22 @@ pub fn close(s: Streams, out: &[u8; 65536], bad: u64) {
     }
     io::print_decimal(VERDICT, bad);
     io::write_all(VERDICT, b"\n");
+}
+
+// The number of what is asked: decimal digits, up to a line feed or the end.
+pub fn read_number() -> Asked {
+    let mut text = [0u8; 16];
+    let got = libc::read(ORDER, &mut text);
+    let n = io::count(got, &text);
+    let end = lines::find(lines::part(&text, 0, n), 0, b'\n');
+    match lines::read_unsigned(lines::part(&text, 0, end)) {
+        Field::Value(v) => Asked::Number((v % 4294967296) as u32),
+        Field::Not(_) => {
+            io::write_all(
+                STDERR_FILENO,
+                b"pk: descriptor 5 has no operation's number; expected a decimal number from 0 to 4294967295\n",
+            );
+            Asked::Nothing
+        }
+    }
 }

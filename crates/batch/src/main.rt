@@ -1,0 +1,327 @@
+// Re-signs a list: reads one pattern a line from standard input, answers the lines by the list call, and writes one line for each, in order; then
+// writes how many lines were bad, as the verdict.
+//
+// The list call takes a piece at a time: the lines that one read completes, and of these at most 8,192. A line that is no pattern keeps its place in
+// the piece, with a mark beside it. The operation's number comes on descriptor 5, and is read once there is something to answer. It is handed on as
+// it is: the list call judges it.
+ghost use mathlib.Core.Path.{_≡_};
+ghost use Prim.Native.Nat.{_≤_, _<_};
+use lines::Kept;
+use pieces::Piece;
+use streams::Asked;
+use streams::Streams;
+use streams::Taken;
+
+// The bytes that `lines::keep` has room for.
+const KEPT: usize = 128;
+
+// The most places of a piece.
+const PLACES: usize = 8192;
+
+// How many lines are answered between two words on how far the run is.
+const STRETCH: u64 = 10000000;
+
+struct State {
+    // What is kept of a line that began in an earlier read, and how many bytes it has so far.
+    kept: Kept,
+    size: usize,
+    // The places of the piece at hand that are filled.
+    filled: usize,
+    // The pieces and the lines that have been answered, and those of the lines that were bad.
+    pieces: u64,
+    answered: u64,
+    bad: u64,
+    // The bytes of the read at hand.
+    count: usize,
+    streams: Streams,
+}
+
+fn start(first: Taken) -> State
+    ensures { λ r. ⌜ r .filled ≡ 0 ⌝ }
+{
+    let streams = first.streams;
+    State {
+        kept: lines::nothing_kept(),
+        size: 0,
+        filled: 0,
+        pieces: 0,
+        answered: 0,
+        bad: 0,
+        count: first.count,
+        streams: streams,
+    }
+}
+
+// Counts the lines of the piece at hand as answered, and says how far the run is where that ends a stretch.
+fn count_lines(mut s: State, bad: u64) -> State
+    ensures { λ r. ⌜ r .filled ≡ 0 ⌝ }
+{
+    let before = s.answered;
+    let answered = std::num::wrapping_add_u64(before, s.filled as u64);
+    s.answered = answered;
+    s.bad = std::num::wrapping_add_u64(s.bad, bad);
+    s.filled = 0;
+    if answered / STRETCH > before / STRETCH {
+        pieces::tell_progress(answered, s.bad);
+    }
+    s
+}
+
+// Hands the piece at hand to the list call, and answers its lines.
+fn end_piece(
+    mut s: State,
+    op: u32,
+    xs: &[u64; 8192],
+    marks: &[u64; 8192],
+    out: &mut [u8; 65536],
+) -> State
+    requires { ⌜ s .filled ≤ 8192 ⌝ }
+    ensures { λ r. ⌜ r .filled ≡ 0 ⌝ }
+{
+    let n = s.filled;
+    if n == 0 {
+        return s;
+    }
+    let number = std::num::wrapping_add_u64(s.pieces, 1);
+    let piece = Piece {
+        number: number,
+        before: s.answered,
+        places: n,
+    };
+    let streams = s.streams;
+    let answered = pieces::answer_piece(streams, out, op, piece, xs, marks);
+    let written = answered.streams;
+    s.streams = written;
+    s.pieces = number;
+    count_lines(s, answered.bad)
+}
+
+// Fills the next place with a line of `size` bytes, by what is kept of it, and hands on the piece where it is full then.
+fn fill(
+    mut s: State,
+    op: u32,
+    xs: &mut [u64; 8192],
+    marks: &mut [u64; 8192],
+    out: &mut [u8; 65536],
+    line: &[u8],
+    size: usize,
+) -> State
+    requires { ⌜ s .filled < 8192 ⌝ }
+    ensures { λ r. ⌜ r .filled < 8192 ⌝ }
+{
+    let i = s.filled;
+    let place = places::read_place(line, size as u64);
+    xs[i] = place.pattern;
+    marks[i] = place.mark;
+    s.filled = i + 1;
+    if s.filled < PLACES {
+        return s;
+    }
+    end_piece(s, op, xs, marks, out)
+}
+
+// Keeps the bytes of s, as far as there is room for them.
+fn keep_all(line: &mut [u8; 128], k: Kept, s: &[u8]) -> Kept {
+    let mut more = k;
+    let mut i = 0;
+    while i < s.len() {
+        more = lines::keep(line, more, s[i]);
+        i += 1;
+    }
+    more
+}
+
+// What would be kept of a whole line.
+fn kept_of(s: &[u8]) -> &[u8] {
+    if s.len() > KEPT {
+        return &s[0..KEPT];
+    }
+    s
+}
+
+// Keeps the part of a line whose end is still to come.
+fn keep(mut s: State, line: &mut [u8; 128], bytes: &[u8]) -> State
+    ensures { λ r. ⌜ r .filled ≡ s .filled ⌝ }
+{
+    let kept = s.kept;
+    let more = keep_all(line, kept, bytes);
+    s.kept = more;
+    s.size = std::num::wrapping_add_usize(s.size, bytes.len());
+    s
+}
+
+// Ends the line of which a part is kept.
+fn end_kept(
+    mut s: State,
+    op: u32,
+    line: &[u8; 128],
+    xs: &mut [u64; 8192],
+    marks: &mut [u64; 8192],
+    out: &mut [u8; 65536],
+) -> State
+    requires { ⌜ s .filled < 8192 ⌝ }
+    ensures { λ r. ⌜ r .filled < 8192 ⌝ }
+{
+    let kept = s.kept;
+    let size = s.size;
+    let none = lines::nothing_kept();
+    s.kept = none;
+    s.size = 0;
+    fill(s, op, xs, marks, out, lines::part(line, 0, kept.held), size)
+}
+
+// Ends a line with its last bytes. A line that one read has whole is read where it stands; no more of it is looked at than of one that is kept, so
+// that the answer does not depend on where a read ends.
+fn end_line(
+    s: State,
+    op: u32,
+    line: &mut [u8; 128],
+    xs: &mut [u64; 8192],
+    marks: &mut [u64; 8192],
+    out: &mut [u8; 65536],
+    bytes: &[u8],
+) -> State
+    requires { ⌜ s .filled < 8192 ⌝ }
+    ensures { λ r. ⌜ r .filled < 8192 ⌝ }
+{
+    if s.size == 0 {
+        return fill(s, op, xs, marks, out, kept_of(bytes), bytes.len());
+    }
+    let t = keep(s, line, bytes);
+    end_kept(t, op, line, xs, marks, out)
+}
+
+fn take_lines(
+    s: State,
+    op: u32,
+    line: &mut [u8; 128],
+    xs: &mut [u64; 8192],
+    marks: &mut [u64; 8192],
+    out: &mut [u8; 65536],
+    bytes: &[u8],
+) -> State
+    requires { ⌜ s .filled < 8192 ⌝ }
+    ensures { λ r. ⌜ r .filled < 8192 ⌝ }
+{
+    let mut t = s;
+    let mut i = 0;
+    while i < bytes.len() {
+        let rest = &bytes[i..];
+        let n = lines::find(rest, 0, b'\n');
+        if n == rest.len() {
+            return keep(t, line, rest);
+        }
+        i += n + 1;
+        t = end_line(t, op, line, xs, marks, out, lines::part(rest, 0, n));
+    }
+    t
+}
+
+// Writes out what is answered, and reads once more.
+fn read_on(mut s: State, out: &[u8; 65536], input: &mut [u8; 65536]) -> State
+    ensures { λ r. ⌜ r .filled ≡ s .filled ⌝ }
+{
+    let streams = s.streams;
+    let taken = streams::take(streams::flush(streams, out), input);
+    let next = taken.streams;
+    s.streams = next;
+    s.count = taken.count;
+    s
+}
+
+// Answers the lines that the read at hand completes, and reads on.
+fn turn(
+    s: State,
+    op: u32,
+    line: &mut [u8; 128],
+    xs: &mut [u64; 8192],
+    marks: &mut [u64; 8192],
+    out: &mut [u8; 65536],
+    input: &mut [u8; 65536],
+) -> State
+    requires { ⌜ s .filled < 8192 ⌝ }
+    ensures { λ r. ⌜ r .filled < 8192 ⌝ }
+{
+    let t = take_lines(s, op, line, xs, marks, out, lines::part(input, 0, s.count));
+    let u = end_piece(t, op, xs, marks, out);
+    read_on(u, out, input)
+}
+
+fn broken(mut s: State) -> State
+    ensures { λ r. ⌜ r .filled ≡ s .filled ⌝ }
+{
+    let streams = s.streams;
+    let next = streams::broken(streams);
+    s.streams = next;
+    s
+}
+
+// A proved loop has to end, and nothing says that the input does. So the loop counts its turns down, from a number that no run uses up.
+fn run(
+    first: State,
+    op: u32,
+    line: &mut [u8; 128],
+    xs: &mut [u64; 8192],
+    marks: &mut [u64; 8192],
+    out: &mut [u8; 65536],
+    input: &mut [u8; 65536],
+) -> State
+    requires { ⌜ first .filled < 8192 ⌝ }
+    ensures { λ r. ⌜ r .filled < 8192 ⌝ }
+{
+    let mut s = first;
+    let mut turns = u64::MAX;
+    while turns > 0 {
+        if s.count == 0 {
+            return s;
+        }
+        s = turn(s, op, line, xs, marks, out, input);
+        turns -= 1;
+    }
+    broken(s)
+}
+
+// Ends a last line that has no line feed.
+fn finish(
+    s: State,
+    op: u32,
+    line: &[u8; 128],
+    xs: &mut [u64; 8192],
+    marks: &mut [u64; 8192],
+    out: &mut [u8; 65536],
+) -> State
+    requires { ⌜ s .filled < 8192 ⌝ }
+{
+    if s.size == 0 {
+        return s;
+    }
+    let t = end_kept(s, op, line, xs, marks, out);
+    end_piece(t, op, xs, marks, out)
+}
+
+fn main() {
+    let mut line = [0u8; 128];
+    let mut xs = [0u64; 8192];
+    let mut marks = [0u64; 8192];
+    let mut out = io::large_buffer();
+    let mut input = io::large_buffer();
+    let first = streams::take(streams::opened(), &mut input);
+    if first.count == 0 {
+        streams::close(first.streams, &out, 0);
+        return;
+    }
+    let Asked::Number(op) = streams::read_number() else {
+        return;
+    };
+    let s = run(
+        start(first),
+        op,
+        &mut line,
+        &mut xs,
+        &mut marks,
+        &mut out,
+        &mut input,
+    );
+    let t = finish(s, op, &line, &mut xs, &mut marks, &mut out);
+    streams::close(t.streams, &out, t.bad);
+}
