@@ -12,9 +12,6 @@ use streams::Asked;
 use streams::Streams;
 use streams::Taken;
 
-// The bytes that `lines::keep` has room for.
-const KEPT: usize = 128;
-
 // The most places of a piece.
 const PLACES: usize = 8192;
 
@@ -22,7 +19,7 @@ const PLACES: usize = 8192;
 const STRETCH: u64 = 10000000;
 
 struct State {
-    // What is kept of a line that began in an earlier read, and how many bytes it has so far.
+    // What is kept of the line at hand, and how many bytes it has so far.
     kept: Kept,
     size: usize,
     // The places of the piece at hand that are filled.
@@ -96,30 +93,6 @@ fn end_piece(
     count_lines(s, answered.bad)
 }
 
-// Fills the next place with a line of `size` bytes, by what is kept of it, and hands on the piece where it is full then.
-fn fill(
-    mut s: State,
-    op: u32,
-    xs: &mut [u64; 8192],
-    marks: &mut [u64; 8192],
-    out: &mut [u8; 65536],
-    line: &[u8],
-    size: usize,
-) -> State
-    requires { ⌜ s .filled < 8192 ⌝ }
-    ensures { λ r. ⌜ r .filled < 8192 ⌝ }
-{
-    let i = s.filled;
-    let place = places::read_place(line, size as u64);
-    xs[i] = place.pattern;
-    marks[i] = place.mark;
-    s.filled = i + 1;
-    if s.filled < PLACES {
-        return s;
-    }
-    end_piece(s, op, xs, marks, out)
-}
-
 // Keeps the bytes of s, as far as there is room for them.
 fn keep_all(line: &mut [u8; 128], k: Kept, s: &[u8]) -> Kept {
     let mut more = k;
@@ -131,15 +104,7 @@ fn keep_all(line: &mut [u8; 128], k: Kept, s: &[u8]) -> Kept {
     more
 }
 
-// What would be kept of a whole line.
-fn kept_of(s: &[u8]) -> &[u8] {
-    if s.len() > KEPT {
-        return &s[0..KEPT];
-    }
-    s
-}
-
-// Keeps the part of a line whose end is still to come.
+// Keeps a part of the line at hand.
 fn keep(mut s: State, line: &mut [u8; 128], bytes: &[u8]) -> State
     ensures { λ r. ⌜ r .filled ≡ s .filled ⌝ }
 {
@@ -150,8 +115,8 @@ fn keep(mut s: State, line: &mut [u8; 128], bytes: &[u8]) -> State
     s
 }
 
-// Ends the line of which a part is kept.
-fn end_kept(
+// Ends the line at hand, which fills the next place, and hands on the piece where it is full then.
+fn end_line(
     mut s: State,
     op: u32,
     line: &[u8; 128],
@@ -163,32 +128,18 @@ fn end_kept(
     ensures { λ r. ⌜ r .filled < 8192 ⌝ }
 {
     let kept = s.kept;
-    let size = s.size;
+    let i = s.filled;
+    let place = places::read_place(lines::part(line, 0, kept.held), s.size as u64);
+    xs[i] = place.pattern;
+    marks[i] = place.mark;
+    s.filled = i + 1;
     let none = lines::nothing_kept();
     s.kept = none;
     s.size = 0;
-    fill(s, op, xs, marks, out, lines::part(line, 0, kept.held), size)
-}
-
-// Ends a line with its last bytes. A line that one read has whole is read where it stands; no more of it is looked at than of one that is kept, so
-// that the answer does not depend on where a read ends.
-fn end_line(
-    s: State,
-    op: u32,
-    line: &mut [u8; 128],
-    xs: &mut [u64; 8192],
-    marks: &mut [u64; 8192],
-    out: &mut [u8; 65536],
-    bytes: &[u8],
-) -> State
-    requires { ⌜ s .filled < 8192 ⌝ }
-    ensures { λ r. ⌜ r .filled < 8192 ⌝ }
-{
-    if s.size == 0 {
-        return fill(s, op, xs, marks, out, kept_of(bytes), bytes.len());
+    if s.filled < PLACES {
+        return s;
     }
-    let t = keep(s, line, bytes);
-    end_kept(t, op, line, xs, marks, out)
+    end_piece(s, op, xs, marks, out)
 }
 
 fn take_lines(
@@ -212,7 +163,8 @@ fn take_lines(
             return keep(t, line, rest);
         }
         i += n + 1;
-        t = end_line(t, op, line, xs, marks, out, lines::part(rest, 0, n));
+        t = keep(t, line, lines::part(rest, 0, n));
+        t = end_line(t, op, line, xs, marks, out);
     }
     t
 }
@@ -295,7 +247,7 @@ fn finish(
     if s.size == 0 {
         return s;
     }
-    let t = end_kept(s, op, line, xs, marks, out);
+    let t = end_line(s, op, line, xs, marks, out);
     end_piece(t, op, xs, marks, out)
 }
 

@@ -76,6 +76,21 @@ pub fn read_place(s: &[u8], size: u64) -> Place
     }
 }
 
+// What the line is or has.
+fn write_flaw(out: &mut [u8], at: usize, mark: u64) -> usize {
+    if mark == EMPTY {
+        return write_bytes(out, at, b"is empty");
+    }
+    if mark == COMMENT {
+        return write_bytes(out, at, b"is a comment");
+    }
+    if mark > LENGTH {
+        let size = mark - LENGTH;
+        return write_fault(out, at, Fault::WrongLength, size as usize);
+    }
+    write_fault(out, at, Fault::WrongDigit, 16)
+}
+
 fn write_mark(out: &mut [u8], at: usize, mark: u64) -> usize {
     if mark == CARRIAGE_RETURN {
         return write_bytes(out, at, b"a carriage return stands in the line");
@@ -84,17 +99,7 @@ fn write_mark(out: &mut [u8], at: usize, mark: u64) -> usize {
         return write_bytes(out, at, b"a blank stands in the line");
     }
     let end = write_bytes(out, at, b"the line ");
-    if mark == EMPTY {
-        return write_bytes(out, end, b"is empty");
-    }
-    if mark == COMMENT {
-        return write_bytes(out, end, b"is a comment");
-    }
-    if mark > LENGTH {
-        let size = mark - LENGTH;
-        return write_fault(out, end, Fault::WrongLength, size as usize);
-    }
-    write_fault(out, end, Fault::WrongDigit, 16)
+    write_flaw(out, end, mark)
 }
 
 // In the place of a line that is no pattern.

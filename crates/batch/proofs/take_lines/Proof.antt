@@ -41,6 +41,9 @@ add-i-2 c = search needs
 part-requires : tie.Need-part-requires Inv-loop μ-loop
 part-requires c κs = search needs
 
+keep-requires-2 : tie.Need-keep-requires-2 Inv-loop μ-loop
+keep-requires-2 c κs = search needs
+
 end-line-requires : tie.Need-end-line-requires Inv-loop μ-loop
 end-line-requires c κs = search needs
 
@@ -69,6 +72,7 @@ take-lines-spec =
     add-i
     add-i-2
     part-requires
+    keep-requires-2
     end-line-requires
     loop-less
     loop-again

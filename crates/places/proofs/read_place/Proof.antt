@@ -1,10 +1,6 @@
 -- `places::read_place` meets its contract, by the cases of the word that is read. Assumes nothing.
-use mathlib.Core.Path.{_≡_, refl}
-use Prim.Native.Nat.{ℕ, _<_}
-use native.Mathlib.Omega.{arith}
 use borrow.Author.Needs.{needs}
-use Rattle.readers.specs.Fields.{wordOf}
-use Rattle.readers.specs.declared.Field.the-variants.{Value, Not}
+use Rattle.places.proofs.Reading.{value-reads, fault-reads}
 use Rattle.places.proofs.read_place.Statement.{statement}
 use Rattle.places.proofs.read_place.Tie as tie
 
@@ -21,18 +17,11 @@ mark-of-requires : tie.Need-mark-of-requires
 mark-of-requires c κs = search needs
 
 returns : tie.Need-returns
-returns c =
-    record {
-      good = λ v e. ((cc), refl);
-      bad = λ f e. (let z : _≡_ {A = ℕ} 0 1 = cc in omega arith, let z : _≡_ {A = ℕ} 0 1 = cc in omega arith);
-    }
+returns c = value-reads _ _ _ (c .before .before .before .read-word .ensures) (c .before .v .given .1)
 
 returns-2 : tie.Need-returns-2
 returns-2 c =
-    record {
-      good = λ v e. (let z : _≡_ {A = ℕ} 0 1 = cc in omega arith, let z : _≡_ {A = ℕ} 0 1 = cc in omega arith);
-      bad = λ f e. (refl, c .mark-of .ensures);
-    }
+    fault-reads _ _ _ _ (c .before .before .before .read-word .ensures) (c .before .enum-told .given .1) (c .mark-of .ensures)
 
 pub read-place-spec : {M : Type 1} → statement M
 read-place-spec =
