@@ -2,18 +2,19 @@
 --
 -- A heading is a demand, in the words of README.md. A theorem is about a definition of crates/ieee/specs, over every fair format; the line "code" above it names the
 -- functions whose contracts are equations with that definition, at 64 and 32 bits.
-use Prim.Native.Nat.{ℕ, suc, _<_}
+use Prim.Native.Nat.{ℕ, suc, _*_, _<_}
 use mathlib.Core.Path.{_≡_}
 use mathlib.Core.Logic.{_↔_}
-use mathlib.Core.Bool.{true}
+use mathlib.Core.Bool.{Bool, true}
 use mathlib.Core.List.{List}
 use native.Mathlib.Omega.{arith}
+use lib.Dec.{eqb}
 use lib.IntN.{ℤ}
 use Rattle.ieee.specs.Format.{Format, b64, b32, units, Fair}
 use Rattle.ieee.specs.Pattern.{minus, magnitude, finite, kind}
 use Rattle.ieee.specs.Round.{ties-to-even}
 use Rattle.ieee.specs.Rule.{to-even, Once}
-use Rattle.ieee.specs.Sqrt.{sqrtOf, exactSqrt}
+use Rattle.ieee.specs.Sqrt.{sqrtOf, sqrtStatus, exactSqrt}
 use Rattle.ieee.specs.Fma.{fmaOf, exactFma, zeroSign}
 use Rattle.ieee.specs.Scalbn.{scalbnOf, exactScalbn}
 use Rattle.ieee.specs.Whole.{truncOf, truncStatus, floorOf}
@@ -38,6 +39,9 @@ use Rattle.ieee.proofs.Reductions.{ReducedAs, reduction-is, reduction-only}
 use Rattle.ieee.proofs.ListCalls.{ListedAs, list-of-is, list-only}
 use Rattle.ieee.proofs.Cases.{cases}
 use Rattle.ieee.proofs.Lazy.{Lazy, lazy}
+use Rattle.roots.specs.Floor.{FloorRoot}
+use Rattle.table_root.specs.Residual.{Residual, floorBy, exactBy}
+use Rattle.table_root.proofs.Wholes.{alike}
 
 -- r meets a rule, and nothing else does
 abbrev pub Only : (ℕ → Type 0) → ℕ → Type 0
@@ -142,6 +146,17 @@ pub scalbn-rounds-once : (f : Format) → Fair f → (x u : ℕ) (n : ℤ) → k
 scalbn-rounds-once f g x u n h =
     let o = scalbn-once f g x u n h in
     (o, λ q a. once-unique f g to-even (minus f x) (exactScalbn f x n) q (scalbnOf f x n) a o)
+
+-- ======== The two routes to the root, digit by digit and by libm's table, give the same.
+-- code: `root` (crates/roots); `wide` and `narrow` (crates/table_root)
+-- of a whole number n: t and e are the root rounded down and whether it is exact; q is a whole number next to the root, and rem its residual
+pub routes-find-one-root : (n t q rem : ℕ) (e : Bool) → FloorRoot n t × (e ≡ eqb (t * t) n) → Residual n q rem → (t ≡ floorBy q rem) × (e ≡ exactBy q rem)
+routes-find-one-root n t q rem e f r = alike n q rem r t e f
+
+-- code: `of_pattern`, by digits; `sqrt64`, `sqrt32`, by the table; the statuses, which take no root (crates/root)
+-- of a pattern x: whatever meets the contract of either route, with the contract of the status, is one answer
+pub routes-give-one-answer : (f : Format) (x r s a b : ℕ) → (r ≡ sqrtOf f x) × (a ≡ sqrtStatus f x) → (s ≡ sqrtOf f x) × (b ≡ sqrtStatus f x) → (r ≡ s) × (a ≡ b)
+routes-give-one-answer f x r s a b (p, i) (q, j) = (cc, cc)
 
 -- ======== What shows that the definitions say what they should
 -- the fifteen worked cases

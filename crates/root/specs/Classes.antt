@@ -20,5 +20,10 @@ isNan f x = ltb (inf f) (magnitude f x)
 abbrev pub isNegative : Format → ℕ → Bool
 isNegative f x = minus f x
 
+-- no root is taken of these
+unfoldable pub rootless : Format → ℕ → Bool
+rootless f x = isZero f x || isInfinite f x || isNan f x || isNegative f x
+
 unfoldable pub setAside : Format → ℕ → Bool
-setAside f x = isZero f x || isSubnormal f x || isInfinite f x || isNan f x || isNegative f x
+unfolding rootless
+setAside f x = rootless f x || isSubnormal f x

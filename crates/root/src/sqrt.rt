@@ -1,16 +1,21 @@
 // sqrt: the square root, rounded once.
 ghost use mathlib.Core.Path.{_≡_};
+ghost use mathlib.Core.Bool.{true};
 ghost use Rattle.ieee.specs.Format.{b64, b32};
 ghost use Rattle.ieee.specs.Pattern.{Pattern};
 ghost use Rattle.ieee.specs.Sqrt.{sqrtOf, sqrtStatus};
 ghost use Rattle.fields.specs.Width.{format, Fits};
-ghost use Rattle.root.specs.Classes.{setAside};
+ghost use Rattle.root.specs.Classes.{rootless, setAside};
 use bits::pow;
 use env::FpResult32;
 use env::FpResult64;
 use patterns::infinity;
 use patterns::nan;
+use rooting::normal32;
+use rooting::normal64;
 use rooting::rooted;
+use rooting::rooted32;
+use rooting::rooted64;
 
 // Whether x is a zero, subnormal, infinite, a NaN or negative. All other patterns run from that of the smallest normal number up to infinity's: less the
 // smallest, what was below it wraps to the far side of infinity, where NaNs and negative operands are.
@@ -23,10 +28,18 @@ fn set_aside(frac: u32, expo: u32, x: u64) -> bool
     std::num::wrapping_sub_u64(x, least) >= inf - least
 }
 
-// Each class by itself: zeros and +infinity are their own roots, every other pattern past +infinity's is a NaN or below zero, and a subnormal number has its
-// root taken.
+// Whether no root is taken: the same without the subnormal numbers, by the pattern less one.
+fn has_no_root(frac: u32, expo: u32, x: u64) -> bool
+    requires { ⌜ Fits frac expo ⌝ }
+    ensures { λ r. ⌜ r ≡ rootless (format frac expo) x ⌝ }
+{
+    let inf = infinity(frac, expo);
+    std::num::wrapping_sub_u64(x, 1) >= inf - 1
+}
+
+// Each of those by itself: zeros and +infinity are their own roots, the others are NaNs or below zero.
 fn by_class(frac: u32, expo: u32, x: u64) -> u64
-    requires { ⌜ Fits frac expo × Pattern (format frac expo) x ⌝ }
+    requires { ⌜ Fits frac expo × Pattern (format frac expo) x × (rootless (format frac expo) x ≡ true) ⌝ }
     ensures { λ r. ⌜ r ≡ sqrtOf (format frac expo) x ⌝ }
 {
     let top = pow(frac + expo);
@@ -37,18 +50,15 @@ fn by_class(frac: u32, expo: u32, x: u64) -> u64
     if x == inf {
         return x;
     }
-    if x > inf {
-        return nan(frac, expo);
-    }
-    rooted(frac, expo, x)
+    nan(frac, expo)
 }
 
-// Most operands are told by the one comparison.
-fn of_pattern(frac: u32, expo: u32, x: u64) -> u64
+// The root of every pattern of any format, by the plain root of a whole number.
+pub fn of_pattern(frac: u32, expo: u32, x: u64) -> u64
     requires { ⌜ Fits frac expo × Pattern (format frac expo) x ⌝ }
     ensures { λ r. ⌜ r ≡ sqrtOf (format frac expo) x ⌝ }
 {
-    if set_aside(frac, expo, x) {
+    if has_no_root(frac, expo, x) {
         return by_class(frac, expo, x);
     }
     rooted(frac, expo, x)
@@ -70,10 +80,33 @@ fn status_of(frac: u32, expo: u32, x: u64) -> u32
     env::INVALID
 }
 
+// What is set aside, by the table where it has a root.
+fn aside64(x: u64) -> u64
+    ensures { λ r. ⌜ r ≡ sqrtOf b64 x ⌝ }
+{
+    if has_no_root(52, 11, x) {
+        return by_class(52, 11, x);
+    }
+    rooted64(x)
+}
+
+fn aside32(x: u32) -> u32
+    ensures { λ r. ⌜ r ≡ sqrtOf b32 x ⌝ }
+{
+    if has_no_root(23, 8, x as u64) {
+        return by_class(23, 8, x as u64) as u32;
+    }
+    rooted32(x as u64)
+}
+
+// Most operands are told by the one comparison.
 pub fn sqrt64(x: u64) -> u64
     ensures { λ r. ⌜ r ≡ sqrtOf b64 x ⌝ }
 {
-    of_pattern(52, 11, x)
+    if set_aside(52, 11, x) {
+        return aside64(x);
+    }
+    normal64(x)
 }
 
 pub fn sqrt64_status(x: u64) -> FpResult64
@@ -88,7 +121,10 @@ pub fn sqrt64_status(x: u64) -> FpResult64
 pub fn sqrt32(x: u32) -> u32
     ensures { λ r. ⌜ r ≡ sqrtOf b32 x ⌝ }
 {
-    of_pattern(23, 8, x as u64) as u32
+    if set_aside(23, 8, x as u64) {
+        return aside32(x);
+    }
+    normal32(x as u64)
 }
 
 pub fn sqrt32_status(x: u32) -> FpResult32

@@ -1,19 +1,33 @@
-// The root of a number above zero: the exponent halved, the whole root of the significand, and the rounding step.
+// The root of a number above zero: the exponent halved, the whole root of the significand, and the rounding.
 ghost use mathlib.Core.Path.{_≡_};
 ghost use mathlib.Core.Bool.{false};
-ghost use Prim.Native.Nat.{_+_, _*_, _<_, _^_};
+ghost use Prim.Native.Nat.{_+_, _-_, _*_, _/_, _%_, _≤_, _<_, _^_};
 ghost use lib.Dec.{T};
 ghost use lib.IntN.{pos, negℤ, _+ℤ_};
 ghost use lib.Signed.{leZ, mag};
-ghost use Rattle.ieee.specs.Format.{inf, low};
-ghost use Rattle.ieee.specs.Pattern.{magnitude, minus};
+ghost use Rattle.ieee.specs.Format.{b64, b32, inf, low};
+ghost use Rattle.ieee.specs.Pattern.{field, magnitude};
+ghost use Rattle.ieee.specs.Round.{answer, ties-to-even};
+ghost use Rattle.ieee.specs.Scalbn.{scaled};
 ghost use Rattle.ieee.specs.Sqrt.{sqrtOf};
 ghost use Rattle.fields.specs.Width.{format, Fits};
-ghost use Rattle.rooting.specs.Split.{lift, halfOf, markedBy};
+ghost use Rattle.reciprocals.specs.Table.{Serves};
+ghost use Rattle.rooting.specs.Split.{lift, halfOf, markedBy, wordOf, nearestOf, Above, Parts, Leads, Room, NearestRoot};
 use bits::pow;
+use fields::exponent_field;
+use fields::fraction_field;
 use norms::norm_of;
+use roots::Whole;
 use roots::root;
 use rounding::round::round;
+use table_root::narrow;
+use table_root::wide;
+
+// A significand, and its exponent, lifted.
+struct Split {
+    sig: u64,
+    up: u32,
+}
 
 // The exponent counted from so far down that it is not below zero, so that it is halved as a whole number.
 fn lifted(frac: u32, expo: u32, exp: i32) -> u32
@@ -39,13 +53,121 @@ fn marked(root: u64, exact: bool) -> u64
     if exact { root * 2 } else { root * 2 + 1 }
 }
 
-// A finite number above zero. The significand goes up as far as a word allows by a whole number of pairs, one place further where the exponent is odd.
-pub fn rooted(frac: u32, expo: u32, x: u64) -> u64
-    requires { ⌜ Fits frac expo × (0 < magnitude (format frac expo) x) × (magnitude (format frac expo) x < inf (format frac expo)) × (minus (format frac expo) x ≡ false) ⌝ }
-    ensures { λ r. ⌜ r ≡ sqrtOf (format frac expo) x ⌝ }
+// A number above zero taken apart.
+fn taken_apart(frac: u32, expo: u32, x: u64) -> Split
+    requires { ⌜ Fits frac expo × (0 < magnitude (format frac expo) x) × (magnitude (format frac expo) x < inf (format frac expo)) ⌝ }
+    ensures { λ r. ⌜ Parts (format frac expo) x (r .sig) (r .up) ⌝ }
 {
     let n = norm_of(frac, expo, x);
-    let up = lifted(frac, expo, n.exp);
-    let r = root(n.sig << (62 - frac + up % 2), frac + 2);
-    round(frac, expo, false, marked(r.root, r.exact), half(up))
+    Split {
+        sig: n.sig,
+        up: lifted(frac, expo, n.exp),
+    }
+}
+
+// A normal number above zero, whose pattern has both parts as they are.
+fn normal_apart(frac: u32, expo: u32, x: u64) -> Split
+    requires { ⌜ Fits frac expo × (0 < field (format frac expo) x) ⌝ }
+    ensures { λ r. ⌜ Parts (format frac expo) x (r .sig) (r .up) ⌝ }
+{
+    let sig = pow(frac) + fraction_field(frac, expo, x);
+    let up = exponent_field(frac, expo, x) + pow(expo - 1) + 1;
+    Split { sig, up: up as u32 }
+}
+
+// The word whose root is taken: the significand goes up as far as a word allows by a whole number of pairs, one place further where the exponent is odd.
+fn word_of(frac: u32, sig: u64, up: u32) -> u64
+    requires { ⌜ Leads frac sig ⌝ }
+    ensures { λ r. ⌜ r ≡ wordOf frac sig up ⌝ }
+{
+    sig << (62 - frac + up % 2)
+}
+
+// The step of the table that this word lies in: the six bits after the leading one, and the half of the table by the exponent. The remainder tells the compiler
+// that there are no further steps.
+fn step_of(frac: u32, sig: u64, up: u32) -> u64
+    requires { ⌜ Leads frac sig × (6 ≤ frac) ⌝ }
+    ensures { λ i. ⌜ Serves i (wordOf frac sig up / 2 ^ 32) ⌝ }
+{
+    ((sig >> (frac - 6)) - 64 * (up % 2) as u64) % 128
+}
+
+// A root of any format put together with the halved exponent, and rounded.
+fn joined(frac: u32, expo: u32, whole: Whole, up: u32) -> u64
+    requires { ⌜ Fits frac expo × (whole .root < 2 ^ 60) × (up < 2 ^ 20) ⌝ }
+    ensures { λ r. ⌜ r ≡ answer (format frac expo) ties-to-even false (scaled false (markedBy (whole .root) (whole .exact)) (halfOf up)) ⌝ }
+{
+    round(frac, expo, false, marked(whole.root, whole.exact), half(up))
+}
+
+// The pattern of the number nearest to a root, where that is a normal number.
+fn nearest(frac: u32, expo: u32, root: u64, rem: u64, up: u32) -> u64
+    requires { ⌜ Fits frac expo × Room (format frac expo) root up ⌝ }
+    ensures { λ r. ⌜ r ≡ nearestOf frac root rem up ⌝ }
+{
+    let below = (up / 2 - 2) as u64 * pow(frac) + root;
+    if rem > root {
+        return below + 1;
+    }
+    below
+}
+
+// A finite number above zero, of any format, by the plain root.
+pub fn rooted(frac: u32, expo: u32, x: u64) -> u64
+    requires { ⌜ Fits frac expo × Above (format frac expo) x ⌝ }
+    ensures { λ r. ⌜ r ≡ sqrtOf (format frac expo) x ⌝ }
+{
+    let s = taken_apart(frac, expo, x);
+    joined(frac, expo, root(word_of(frac, s.sig, s.up), frac + 2), s.up)
+}
+
+// The parts of a number put together again with their root, by the table, at 64 bits and at 32. Each width has one body, so that the compiler lays it out for that width.
+fn by_table64(sig: u64, up: u32) -> u64
+    requires { ⌜ Leads 52 sig × (4 ≤ up) × (up / 2 < 2 ^ 11) ⌝ }
+    ensures { λ r. ⌜ NearestRoot 52 sig up r ⌝ }
+{
+    let close = wide(word_of(52, sig, up), step_of(52, sig, up));
+    nearest(52, 11, close.root, close.rem, up)
+}
+
+fn by_table32(sig: u64, up: u32) -> u32
+    requires { ⌜ Leads 23 sig × (4 ≤ up) × (up / 2 < 2 ^ 8) ⌝ }
+    ensures { λ r. ⌜ NearestRoot 23 sig up r ⌝ }
+{
+    let close = narrow(word_of(23, sig, up), step_of(23, sig, up));
+    nearest(23, 8, close.root, close.rem, up) as u32
+}
+
+// A finite number above zero, by the table.
+pub fn rooted64(x: u64) -> u64
+    requires { ⌜ Above b64 x ⌝ }
+    ensures { λ r. ⌜ r ≡ sqrtOf b64 x ⌝ }
+{
+    let s = taken_apart(52, 11, x);
+    by_table64(s.sig, s.up)
+}
+
+pub fn rooted32(x: u64) -> u32
+    requires { ⌜ Above b32 x ⌝ }
+    ensures { λ r. ⌜ r ≡ sqrtOf b32 x ⌝ }
+{
+    let s = taken_apart(23, 8, x);
+    by_table32(s.sig, s.up)
+}
+
+// A normal number above zero, by the table: it needs no leading zeros to be counted.
+pub fn normal64(x: u64) -> u64
+    requires { ⌜ Above b64 x × (0 < field b64 x) ⌝ }
+    ensures { λ r. ⌜ r ≡ sqrtOf b64 x ⌝ }
+{
+    let s = normal_apart(52, 11, x);
+    by_table64(s.sig, s.up)
+}
+
+pub fn normal32(x: u64) -> u32
+    requires { ⌜ Above b32 x × (0 < field b32 x) ⌝ }
+    ensures { λ r. ⌜ r ≡ sqrtOf b32 x ⌝ }
+{
+    let s = normal_apart(23, 8, x);
+    by_table32(s.sig, s.up)
 }

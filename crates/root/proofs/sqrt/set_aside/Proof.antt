@@ -28,7 +28,7 @@ returns : tie.Need-returns
 returns c =
     let o = c .before in
     let w = c .wrapping-sub-u64 in
-    aside-test (f o) (s o .args .x) (o .before .pow .result) _ (w .result) (o .before .pow .ensures) (o .infinity .ensures) (w .ensures) (w .ok) (top-room (s o .pre))
+    aside-test (f o) (s o .args .x) (o .before .pow .result) _ (w .result) (o .before .pow .ensures) (o .infinity .ensures) (omega (arith, least-below o, o .before .pow .ensures, o .infinity .ensures)) (w .ensures) (w .ok) (top-room (s o .pre))
 
 sub-result : tie.Need-sub-result
 sub-result c = let o = c .before in omega (arith, least-below o, o .before .pow .ensures, o .infinity .ensures)

@@ -1,19 +1,28 @@
--- Every answer is a pattern of 32 bits, so that narrowing keeps it (Rows). Assumes nothing.
-use native.Mathlib.Omega.{arith}
+-- What is not set aside is a normal number above zero (Asides). Assumes nothing.
+use mathlib.Core.Path.{sym, _∙_}
 use borrow.Author.Needs.{needs}
-use Rattle.fields.proofs.Widths.{fits32}
-use Rattle.root.proofs.Rows.{sqrt-pattern}
+use Rattle.ieee.specs.Format.{b32}
+use Rattle.root.proofs.Asides.{stays-rooted, stays-normal, rooted-above}
 use Rattle.root.proofs.sqrt.sqrt32.Statement.{statement}
 use Rattle.root.proofs.sqrt.sqrt32.Tie as tie
 
+normal32-requires : tie.Need-normal32-requires
+normal32-requires c κs =
+    let x = c .before .before .args .x in
+    let s = sym (c .before .set-aside .ensures) ∙ c .if1 .left in
+    (rooted-above b32 x (stays-rooted b32 x s), stays-normal b32 x s)
+
+set-aside-requires : tie.Need-set-aside-requires
+set-aside-requires c κs = search needs
+
+aside32-requires : tie.Need-aside32-requires
+aside32-requires c κs = search needs
+
 returns : tie.Need-returns
-returns c = omega (arith, c .of-pattern .ensures)
+returns c = search needs
 
-of-pattern-requires : tie.Need-of-pattern-requires
-of-pattern-requires c κs = search needs
-
-cast-result : tie.Need-cast-result
-cast-result c = let x = c .before .args .x in record { fits = omega (arith, c .of-pattern .ensures, sqrt-pattern fits32 x (omega arith)) }
+returns-2 : tie.Need-returns-2
+returns-2 c = search needs
 
 pub sqrt32-spec : {M : Type 1} → statement M
-sqrt32-spec = tie.close (tie.spec of-pattern-requires cast-result returns)
+sqrt32-spec = tie.close (tie.spec set-aside-requires aside32-requires returns normal32-requires returns-2)

@@ -1,13 +1,28 @@
--- The answer is the format's. Assumes nothing.
+-- What is not set aside is a normal number above zero (Asides). Assumes nothing.
+use mathlib.Core.Path.{sym, _∙_}
 use borrow.Author.Needs.{needs}
+use Rattle.ieee.specs.Format.{b64}
+use Rattle.root.proofs.Asides.{stays-rooted, stays-normal, rooted-above}
 use Rattle.root.proofs.sqrt.sqrt64.Statement.{statement}
 use Rattle.root.proofs.sqrt.sqrt64.Tie as tie
 
-returns : tie.Need-returns
-returns c = c .of-pattern .ensures
+normal64-requires : tie.Need-normal64-requires
+normal64-requires c κs =
+    let x = c .before .before .args .x in
+    let s = sym (c .before .set-aside .ensures) ∙ c .if1 .left in
+    (rooted-above b64 x (stays-rooted b64 x s), stays-normal b64 x s)
 
-of-pattern-requires : tie.Need-of-pattern-requires
-of-pattern-requires c κs = search needs
+set-aside-requires : tie.Need-set-aside-requires
+set-aside-requires c κs = search needs
+
+aside64-requires : tie.Need-aside64-requires
+aside64-requires c κs = search needs
+
+returns : tie.Need-returns
+returns c = search needs
+
+returns-2 : tie.Need-returns-2
+returns-2 c = search needs
 
 pub sqrt64-spec : {M : Type 1} → statement M
-sqrt64-spec = tie.close (tie.spec of-pattern-requires returns)
+sqrt64-spec = tie.close (tie.spec set-aside-requires aside64-requires returns normal64-requires returns-2)

@@ -1,0 +1,98 @@
+-- A number taken apart: how large its parts are, and that the root of its word, whichever way it was found, gives the answer. Assumes nothing.
+use Prim.Native.Nat.{ℕ, _+_, _-_, _*_, _/_, _%_, _^_, _≤_, _<_}
+use mathlib.Core.Path.{_≡_, refl, subst, sym, ap, _∙_}
+use mathlib.Core.Bool.{Bool, false}
+use native.Mathlib.Omega.{arith}
+use lib.Dec.{eqb}
+use lib.IntN.{pos}
+use lib.Pow.{pow-add, pow-pos, pow-mono}
+use borrow.Author.Tests.{eqb-true, lt-ltb, le-ltb}
+use Rattle.algebra.proofs.Products.{order, times-le}
+use Rattle.algebra.proofs.Integers.{addZ, eqZ-fact}
+use Rattle.ieee.specs.Round.{ties-to-even, answer}
+use Rattle.ieee.specs.Scalbn.{scaled}
+use Rattle.ieee.specs.Sqrt.{sqrtOf}
+use Rattle.fields.specs.Width.{format, Fits}
+use Rattle.fields.proofs.Widths.{fields-small}
+use Rattle.norms.specs.Norm.{placeOf}
+use Rattle.norms.proofs.Places.{place-bounds}
+use Rattle.roots.specs.Floor.{FloorRoot, pairs}
+use Rattle.roots.proofs.Digits.{root-small}
+use Rattle.table_root.specs.Residual.{nearestBy}
+use Rattle.table_root.proofs.Wholes.{longer-root, nearest-alike}
+use Rattle.rooting.specs.Split.{lift, square, halfOf, markedBy, wordOf, Above, Parts, Leads, Room, NearestRoot}
+use Rattle.rooting.proofs.Joins.{NormalRoot, even-root, nearest-is}
+use Rattle.rooting.proofs.Rootings.{root-answer, root-long, up-least, up-most}
+use Rattle.rooting.proofs.Splits.{fraction-few, leads, word-room, word-squares, word-fourfold}
+
+-- a nearest number fits in a word, with the sign's bit to spare
+pub nearest-room : {p e : ℕ} → Fits p e → (q up : ℕ) → Room (format p e) q up → (unit : ℕ) → unit ≡ 2 ^ p → (up / 2 - 2) * unit + q + 1 < 2 ^ (p + e)
+nearest-room {p} {e} w q up n unit i =
+    let l : up / 2 - 2 + 3 ≤ 2 ^ e = omega (arith, n .from, n .to) in
+    rw i (omega (arith, n .most, times-le (2 ^ p) l, pow-add 2 p e, pow-pos p))
+
+pub one-more : (q rem : ℕ) → nearestBy q rem ≤ q + 1
+one-more q rem = order rem q (λ l. rw (le-ltb q rem l) (omega arith)) (λ l. rw (lt-ltb q rem l) (omega arith))
+
+module _ {p e : ℕ} (w : Fits p e) (x : ℕ) (a : Above (format p e) x) (sig up : ℕ) (h : Parts (format p e) x sig up) where
+  pub up-small : up < 2 ^ 18
+  up-small =
+      let z = placeOf (format p e) x in
+      omega (arith, eqZ-fact (h .up-is), addZ z (pos (lift (format p e))), place-bounds w x (a .some), fields-small w, w .word)
+
+  pub led : Leads p sig
+  led = leads w x sig (a .some) (h .sig-is)
+
+  abbrev word : ℕ
+  word = wordOf p sig up
+
+  square-is : pairs word (p + 2) ≡ square (format p e) x up
+  square-is = word-squares p sig up led ∙ ap (λ s. s * 2 ^ (p + 2 + up % 2)) (h .sig-is)
+
+  small : (t : ℕ) → FloorRoot (pairs word (p + 2)) t → t < 2 ^ (p + 2)
+  small t r = root-small word (p + 2) t (word-room p sig up led) r
+
+  pub root-fits : (t : ℕ) → FloorRoot (pairs word (p + 2)) t → t < 2 ^ 60
+  root-fits t r = omega (arith, small t r, pow-mono {i = p + 2} {j = 60} (omega (arith, fraction-few w)))
+
+  -- the lifted exponent of a format whose fraction leaves room below the bias
+  pub up-from : p + 2 ≤ 2 ^ (e - 1) → 4 ≤ up
+  up-from l = up-least (format p e) (w .fair) x (a .some) up (h .up-is) l
+
+  pub up-to : up / 2 < 2 ^ e
+  up-to = up-most (format p e) (w .fair) x (a .some) up (h .up-is)
+
+  normal-root : p + 2 ≤ 2 ^ (e - 1) → (t : ℕ) → FloorRoot (pairs word (p + 2)) t → NormalRoot (format p e) t up
+  normal-root l t r =
+      record {
+        least = root-long (format p e) (w .fair) x (a .some) up (h .up-is) t (subst (λ n. FloorRoot n t) square-is r);
+        most = omega (arith, small t r, pow-add 2 p 2);
+        from = up-from l;
+        to = up-to;
+      }
+
+  answers : (t : ℕ) (b : Bool) → FloorRoot (pairs word (p + 2)) t × (b ≡ eqb (t * t) (pairs word (p + 2)))
+      → sqrtOf (format p e) x ≡ answer (format p e) ties-to-even false (scaled false (markedBy t b) (halfOf up))
+  answers t b (i, j) =
+      root-answer (format p e) (w .fair) x (a .some) up (h .up-is) (a .below) (a .plus) t b
+      (subst (λ n. FloorRoot n t) square-is i) (j ∙ ap (eqb (t * t)) square-is)
+
+  -- ---- by the plain root, rounded by the general step
+  pub rounded-answers : (t : ℕ) (b : Bool) → FloorRoot (pairs word (p + 2)) t × (b ≡ eqb (t * t) (pairs word (p + 2))) → (r : ℕ)
+      → r ≡ answer (format p e) ties-to-even false (scaled false (markedBy t b) (halfOf up)) → r ≡ sqrtOf (format p e) x
+  rounded-answers t b i r k = k ∙ sym (answers t b i)
+
+  -- ---- by the residual, to the nearest
+  -- an exact root is even
+  even-square : (t : ℕ) → t * t ≡ pairs word (p + 2) → t % 2 ≡ 0
+  even-square t q = even-root t (2 * pairs word (p + 1)) (omega (arith, q, word-fourfold p sig up led))
+
+  pub nearest-answers : p + 2 ≤ 2 ^ (e - 1) → (r : ℕ) → NearestRoot p sig up r → r ≡ sqrtOf (format p e) x
+  nearest-answers l r n =
+      let (t, f) = longer-root (pairs word (p + 1)) (n .root) (n .rem) (n .residual) in
+      let g : FloorRoot (pairs word (p + 2)) t = subst (λ k. FloorRoot k t) (sym (word-fourfold p sig up led)) f in
+      let b : Bool = eqb (t * t) (pairs word (p + 2)) in
+      n .is
+      ∙ ap (λ k. (up / 2 - 2) * 2 ^ p + k) (sym (nearest-alike (pairs word (p + 1)) (n .root) (n .rem) (n .residual) t f))
+      ∙ sym (nearest-is (format p e) (w .fair) t up (normal-root l t g) b (λ q. even-square t (eqb-true (t * t) (pairs word (p + 2)) q)))
+      ∙ sym (answers t b (g, refl))

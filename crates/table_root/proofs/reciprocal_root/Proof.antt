@@ -1,0 +1,55 @@
+-- The table's guess and two rounds, on the upper half (Steps). Assumes nothing.
+use Prim.Native.Nat.{ℕ, _/_, _%_, _^_, _≤_, _<_}
+use native.Mathlib.Omega.{arith}
+use Rattle.goldschmidt.specs.Near.{Near, Next}
+use Rattle.reciprocals.proofs.Rule.{start-near}
+use Rattle.table_root.proofs.Steps.{ready-first, ready, once, again, whole}
+use Rattle.table_root.proofs.reciprocal_root.Statement.{statement}
+use Rattle.table_root.proofs.reciprocal_root.Tie as tie
+
+module _ (c : tie.After-reciprocal) where
+  abbrev m : ℕ
+  m = c .before .args .m
+
+  abbrev h : ℕ
+  h = m / 2 ^ 32
+
+  least : 2 ^ 30 ≤ h
+  least = omega arith
+
+  most : h < 2 ^ 32
+  most = omega arith
+
+  start : Near (2 ^ 30) h (c .reciprocal .result) 8404992 × (c .reciprocal .result < 2 ^ 32)
+  start = start-near (c .before .args .i) h (c .reciprocal .result) (c .before .pre .1) (c .reciprocal .ensures)
+
+abbrev t : tie.After-refined → ℕ
+t c = c .refined .result % 2 ^ 32
+
+once-refined : (c : tie.After-refined) → Next (2 ^ 30) (h (c .before)) (t c) 65799
+once-refined c =
+    let b = c .before in
+    once (h b) (least b) (most b) (b .reciprocal .result) (c .refined .result) (start b) (c .refined .ensures)
+
+reciprocal-requires : tie.Need-reciprocal-requires
+reciprocal-requires c κs = c .pre .1 .at
+
+refined-requires : tie.Need-refined-requires
+refined-requires c κs =
+    let d = ready-first (h c) (least c) (most c) (c .reciprocal .result) (start c) in
+    (most c, d .word, d .low)
+
+refined-requires-2 : tie.Need-refined-requires-2
+refined-requires-2 c κs =
+    let b = c .before in
+    let d = ready (h b) (least b) (most b) (t c) 65799 (once-refined c) in
+    (most b, d .word, d .low)
+
+returns : tie.Need-returns
+returns c =
+    let r = c .before in
+    let b = r .before in
+    whole (m b) (omega arith) (omega arith) (c .refined2 .result) (again (h b) (least b) (most b) (t r) (c .refined2 .result) (once-refined r) (c .refined2 .ensures))
+
+pub reciprocal-root-spec : {M : Type 1} → statement M
+reciprocal-root-spec = tie.close (tie.spec reciprocal-requires refined-requires refined-requires-2 returns)

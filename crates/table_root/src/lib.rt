@@ -1,0 +1,109 @@
+// The root of a whole number by libm's table and Goldschmidt's rounds, with its residual: of 53 digits and of 24. `roots::root` has it digit by digit.
+ghost use mathlib.Core.Path.{_≡_};
+ghost use Prim.Native.Nat.{_-_, _*_, _/_, _%_, _≤_, _<_, _^_};
+ghost use Rattle.goldschmidt.specs.Near.{Near, Within};
+ghost use Rattle.goldschmidt.specs.Round.{next, last};
+ghost use Rattle.reciprocals.specs.Table.{Serves};
+ghost use Rattle.roots.specs.Floor.{pairs};
+ghost use Rattle.table_root.specs.Residual.{Residual};
+use products::mul_hi;
+use products::mul_lo;
+use reciprocals::reciprocal;
+
+// A whole number next to a root, and its residual: what its square leaves of the number.
+pub struct Close {
+    pub root: u64,
+    pub rem: u64,
+}
+
+// A round on half words: the reciprocal root refined.
+fn refined(m: u64, r: u64) -> u64
+    requires { ⌜ (m < 2 ^ 32) × (r < 2 ^ 32) × (m * (r * r) ≤ 2 ^ 95) ⌝ }
+    ensures { λ q. ⌜ q ≡ next (2 ^ 30) m r ⌝ }
+{
+    let s = m * r / 0x1_0000_0000;
+    let d = s * r / 0x1_0000_0000;
+    let u = 0xbfff_fffe - d;
+    r * u / 0x8000_0000
+}
+
+// The last round on half words gives √m, with 29 fraction bits.
+fn last_narrow(m: u64, r: u64) -> u64
+    requires { ⌜ (m < 2 ^ 32) × (r < 2 ^ 32) × (m * (r * r) ≤ 2 ^ 95) ⌝ }
+    ensures { λ q. ⌜ q ≡ last (2 ^ 30) m r ⌝ }
+{
+    let s = m * r / 0x1_0000_0000;
+    let d = s * r / 0x1_0000_0000;
+    let u = 0xbfff_fffe - d;
+    s * u / 0x1_0000_0000
+}
+
+// √m cut to 24 bits. The remainder tells the compiler that the reciprocal root is half a word.
+fn guess_narrow(m: u64, i: u64) -> u64
+    requires { ⌜ (2 ^ 30 ≤ m) × (m < 2 ^ 32) × Serves i m ⌝ }
+    ensures { λ q. ⌜ Within (m * 2 ^ 16) q × (q < 2 ^ 24) ⌝ }
+{
+    let r = reciprocal(i);
+    let t = refined(m, r) % 0x1_0000_0000;
+    last_narrow(m, t) / 64
+}
+
+// 1 / √m with 32 fraction bits, from the upper half of m.
+fn reciprocal_root(m: u64, i: u64) -> u64
+    requires { ⌜ (2 ^ 62 ≤ m) × Serves i (m / 2 ^ 32) ⌝ }
+    ensures { λ r. ⌜ (r < 2 ^ 32) × Near (2 ^ 62) m (r * 2 ^ 32) (10 * 2 ^ 32) ⌝ }
+{
+    let h = m / 0x1_0000_0000;
+    let r = reciprocal(i);
+    let t = refined(h, r) % 0x1_0000_0000;
+    refined(h, t)
+}
+
+// The last round on whole words gives √m, with 61 fraction bits.
+fn last_wide(m: u64, r: u64) -> u64
+    requires { ⌜ Near (2 ^ 62) m r (10 * 2 ^ 32) ⌝ }
+    ensures { λ q. ⌜ q ≡ last (2 ^ 62) m r ⌝ }
+{
+    let s = mul_hi(m, r);
+    let d = mul_hi(s, r);
+    let u = 0xbfff_ffff_ffff_fffe - d;
+    mul_hi(s, u)
+}
+
+// √m cut to 53 bits.
+fn guess_wide(m: u64, i: u64) -> u64
+    requires { ⌜ (2 ^ 62 ≤ m) × Serves i (m / 2 ^ 32) ⌝ }
+    ensures { λ q. ⌜ Within (m * 2 ^ 42) q × (q < 2 ^ 53) ⌝ }
+{
+    let r = reciprocal_root(m, i);
+    last_wide(m, r * 0x1_0000_0000) / 512
+}
+
+// The residual of such a q, what its square leaves of the number: it is small, so that the low words give it.
+fn residual(m: u64, q: u64) -> u64
+    requires { ⌜ Within (m * 2 ^ 42) q × (q < 2 ^ 53) ⌝ }
+    ensures { λ r. ⌜ r ≡ m * 2 ^ 42 - q * q ⌝ }
+{
+    std::num::wrapping_sub_u64(m << 42, mul_lo(q, q))
+}
+
+// The root of the first 24 pairs of bits, of a word whose lower half is zero and whose step of the table is i.
+pub fn narrow(m: u64, i: u64) -> Close
+    requires { ⌜ (2 ^ 62 ≤ m) × (m % 2 ^ 32 ≡ 0) × Serves i (m / 2 ^ 32) ⌝ }
+    ensures { λ r. ⌜ Residual (pairs m 24) (r .root) (r .rem) ⌝ }
+{
+    let h = m / 0x1_0000_0000;
+    let root = guess_narrow(h, i);
+    let rem = h * 0x1_0000 - root * root;
+    Close { root, rem }
+}
+
+// The root of the first 53 pairs of bits, of a word whose step of the table is i.
+pub fn wide(m: u64, i: u64) -> Close
+    requires { ⌜ (2 ^ 62 ≤ m) × Serves i (m / 2 ^ 32) ⌝ }
+    ensures { λ r. ⌜ Residual (pairs m 53) (r .root) (r .rem) ⌝ }
+{
+    let root = guess_wide(m, i);
+    let rem = residual(m, root);
+    Close { root, rem }
+}
