@@ -19,6 +19,8 @@ mod known;
 mod list_shapes;
 mod lists;
 mod numbers;
+#[cfg(plain_root)]
+mod plain_root;
 mod quick;
 mod record;
 mod reductions;

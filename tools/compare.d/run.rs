@@ -7,7 +7,7 @@ use crate::lines::{write_fields, write_request};
 use crate::operations::{self, Kind, Operation};
 use crate::random::Random;
 use crate::request::{Answer, Request};
-use crate::table::{Judge, Nans, Row};
+use crate::table::{Judge, Nans, OTHER, Row};
 use crate::tally::{Progress, Tally, kind_names};
 use std::panic::{AssertUnwindSafe, catch_unwind};
 use std::sync::Mutex;
@@ -139,7 +139,7 @@ impl Run {
         }
         let is_same = |one: &Answer, other: &Answer| same(row.nans, tally.operation, one, other);
         let differing = match &judged {
-            None => [(!is_same(&ours, &crates)).then_some((&ours, "the crate", &crates)), None],
+            None => [(!is_same(&ours, &crates)).then_some((&ours, OTHER, &crates)), None],
             Some((judged, beside)) => [
                 (!is_same(&ours, judged)).then_some((&ours, "the judge", judged)),
                 (!is_same(judged, &crates)).then_some((judged, *beside, &crates)),

@@ -6,12 +6,16 @@
 use crate::format::Format;
 use crate::fused::FOR_FUSED;
 use crate::lists::ListCall;
+#[cfg(plain_root)]
+use crate::plain_root as other_root;
 use crate::quick::{Draw, FOR_SCALING, FOR_WHOLE};
 use crate::reductions::{FOR_REDUCTIONS, by_the_crate};
 use crate::remainders::FOR_REMAINDERS;
 use crate::request::{Answer, Request};
 use crate::roots::FOR_ROOTS;
 use oracle::api;
+#[cfg(not(plain_root))]
+use oracle::api as other_root;
 
 /// What becomes of NaN answers.
 #[derive(Clone, Copy, Debug, PartialEq, Eq)]
@@ -41,6 +45,10 @@ impl Nans {
         }
     }
 }
+
+/// Whose the other side is; in a run of the two routes of the root both are ours, so that NaNs too must be alike.
+pub const OTHER: &str = if cfg!(plain_root) { "the plain root" } else { "the crate" };
+const OF_ROOTS: Nans = if cfg!(plain_root) { Nans::BitForBit } else { Nans::Equal };
 
 /// Whose answers are taken for right.
 #[derive(Clone, Copy, Debug, PartialEq, Eq)]
@@ -202,19 +210,19 @@ pub static ROWS: [Row; 15] = [
     },
     Row {
         name: "sqrt64",
-        nans: Nans::Equal,
+        nans: OF_ROOTS,
         judge: Judge::Crate,
         draws: &FOR_ROOTS,
         ours: |r| unsafe { Answer::status(pk_sqrt64(r.x()), pk_sqrt64_status(r.x())) },
-        crates: |r| Answer::both(api::sqrt64(r.x())),
+        crates: |r| Answer::both(other_root::sqrt64(r.x())),
     },
     Row {
         name: "sqrt32",
-        nans: Nans::Equal,
+        nans: OF_ROOTS,
         judge: Judge::Crate,
         draws: &FOR_ROOTS,
         ours: |r| unsafe { Answer::status(pk_sqrt32(r.x32()).into(), pk_sqrt32_status(r.x32())) },
-        crates: |r| Answer::both32(api::sqrt32(r.x32())),
+        crates: |r| Answer::both32(other_root::sqrt32(r.x32())),
     },
     Row {
         name: "fma64",
