@@ -5,12 +5,12 @@ use native.Mathlib.Nat.{mul-le-mul}
 use native.Mathlib.Omega.{arith}
 use Rattle.algebra.proofs.Products.{cross, times-le, mul-le-cancel, mul-lt-cancel}
 use Rattle.algebra.proofs.Roots.{sq-le, sq-lt}
-use Rattle.goldschmidt.specs.Near.{Near, Next}
+use Rattle.goldschmidt.specs.Near.{Near, NearBelow}
 use Rattle.goldschmidt.proofs.Cubes.{round-le, round-ge}
 use Rattle.goldschmidt.proofs.Cuts.{Cut, Sides, sides, rest}
 
 pub step : (Q m r s d u r′ k k′ : ℕ) → 50 ≤ Q → 0 < r → r ≤ 4 * Q → 0 < m → m ≤ 4 * Q → Cut Q m r s d u → r′ * (2 * Q) ≤ r * u → r * u < (r′ + 1) * (2 * Q)
-    → Near Q m r k → k′ ≤ Q → 2 * (k * k) + 11 * Q ≤ 2 * (k′ * Q) → Next Q m r′ k′
+    → Near Q m r k → k′ ≤ Q → 2 * (k * k) + 11 * Q ≤ 2 * (k′ * Q) → NearBelow Q m r′ k′
 step Q m r s d u r′ k k′ p r0 hr m0 hm c l h n small′ hk =
     let (w, e) = rest Q m r k n in
     let v : Sides Q m r u w = sides Q m r s d u w (omega arith) hr c e in
@@ -25,7 +25,7 @@ step Q m r s d u r′ k k′ p r0 hr m0 hm c l h n small′ hk =
     record { near = record { lo = lo′; hi = omega arith; small = small′ }; below = b }
 
 -- ---- from a half word to a word: the low digit of m is dropped in the first rounds
-pub widen : (q mh l r k : ℕ) → 1 ≤ k → r ≤ 4 * q → l < 4 * q → Next q mh r k → Near (q * (4 * q)) (mh * (4 * q) + l) (r * (4 * q)) (k * (4 * q))
+pub widen : (q mh l r k : ℕ) → 1 ≤ k → r ≤ 4 * q → l < 4 * q → NearBelow q mh r k → Near (q * (4 * q)) (mh * (4 * q) + l) (r * (4 * q)) (k * (4 * q))
 widen q mh l r k k1 hr hl n =
     let a = mul-le-mul hl (mul-le-mul hr hr) in
     record {
@@ -35,7 +35,7 @@ widen q mh l r k k1 hr hl n =
     }
 
 -- r is a digit
-pub digit : (Q m r k : ℕ) → Q ≤ m → Next Q m r k → r < 4 * Q
+pub digit : (Q m r k : ℕ) → Q ≤ m → NearBelow Q m r k → r < 4 * Q
 digit Q m r k hm n = sq-lt r (4 * Q) (mul-lt-cancel (r * r) (4 * Q * (4 * Q)) Q (omega (arith, times-le (r * r) hm, n .below)))
 
 pub positive : (Q m r k : ℕ) → k < Q → Near Q m r k → 0 < r

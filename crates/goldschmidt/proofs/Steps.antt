@@ -4,7 +4,7 @@ use native.Mathlib.Nat.{mul-le-mul}
 use native.Mathlib.Omega.{arith}
 use Rattle.algebra.proofs.Products.{mul-lt-cancel}
 use Rattle.algebra.proofs.Quotients.{div-mod}
-use Rattle.goldschmidt.specs.Near.{Near, Next}
+use Rattle.goldschmidt.specs.Near.{Near, NearBelow}
 use Rattle.goldschmidt.specs.Round.{rootBy, squareBy, factor, next, last}
 use Rattle.goldschmidt.proofs.Cuts.{Cut, room, twice}
 use Rattle.goldschmidt.proofs.Rounds.{step, positive}
@@ -56,7 +56,7 @@ module _ (Q m r : ℕ) (big : 50 ≤ Q) (hm : m < 4 * Q) (hr : r < 4 * Q) where
         u-is = omega (arith, f .d);
       }
 
-  pub next-near : (k k′ : ℕ) → Q ≤ m → k < Q → k′ ≤ Q → Near Q m r k → 2 * (k * k) + 11 * Q ≤ 2 * (k′ * Q) → Next Q m (next Q m r) k′
+  pub next-near : (k k′ : ℕ) → Q ≤ m → k < Q → k′ ≤ Q → Near Q m r k → 2 * (k * k) + 11 * Q ≤ 2 * (k′ * Q) → NearBelow Q m (next Q m r) k′
   next-near k k′ lm hk hk′ n e =
       step Q m r (rootBy Q m r) (squareBy Q m r) (factor Q m r) (next Q m r) k k′ big (positive Q m r k hk n) (omega arith) (omega arith) (omega arith)
       (cut-is (safe (twice Q m r k n)))

@@ -8,7 +8,7 @@ pub record Near (Q m r k : ℕ) : Type 0 where
   pub small : k ≤ Q
 
 -- and not above it
-pub record Next (Q m r k : ℕ) : Type 0 where
+pub record NearBelow (Q m r k : ℕ) : Type 0 where
   pub near : Near Q m r k
   pub below : m * (r * r) < 16 * (Q * (Q * Q))
 

@@ -100,7 +100,8 @@ fn joined(frac: u32, expo: u32, whole: Whole, up: u32) -> u64
     round(frac, expo, false, marked(whole.root, whole.exact), half(up))
 }
 
-// The pattern of the number nearest to a root, where that is a normal number.
+// The pattern of the number nearest to a root, where that is a normal number. The next is nearer exactly where the residual is greater than the root: the middle
+// between them has the square root² + root + 1/4.
 fn nearest(frac: u32, expo: u32, root: u64, rem: u64, up: u32) -> u64
     requires { ⌜ Fits frac expo × Room (format frac expo) root up ⌝ }
     ensures { λ r. ⌜ r ≡ nearestOf frac root rem up ⌝ }
@@ -121,7 +122,7 @@ pub fn rooted(frac: u32, expo: u32, x: u64) -> u64
     joined(frac, expo, root(word_of(frac, s.sig, s.up), frac + 2), s.up)
 }
 
-// The parts of a number put together again with their root, by the table, at 64 bits and at 32. Each width has one body, so that the compiler lays it out for that width.
+// The root of a significand at a lifted exponent, by the table, at 64 bits and at 32. Each width has one body, so that the compiler lays it out for that width.
 fn by_table64(sig: u64, up: u32) -> u64
     requires { ⌜ Leads 52 sig × (4 ≤ up) × (up / 2 < 2 ^ 11) ⌝ }
     ensures { λ r. ⌜ NearestRoot 52 sig up r ⌝ }

@@ -5,7 +5,7 @@ use Prim.Native.Nat.{ℕ, _+_, _*_, _-_, _/_, _%_, _^_, _≤_, _<_}
 use native.Mathlib.Nat.{mul-le-mul, mod-eq-of-lt}
 use native.Mathlib.Omega.{arith, by-contra}
 use Rattle.algebra.proofs.Roots.{sq-lt}
-use Rattle.goldschmidt.specs.Near.{Near, Next, Almost, Within}
+use Rattle.goldschmidt.specs.Near.{Near, NearBelow, Almost, Within}
 use Rattle.goldschmidt.specs.Round.{next, last}
 use Rattle.goldschmidt.proofs.Cuts.{twice}
 use Rattle.goldschmidt.proofs.Rounds.{widen, digit}
@@ -21,19 +21,19 @@ module _ (m : ℕ) (lm : 2 ^ 30 ≤ m) (hm : m < 2 ^ 32) where
   pub ready-first : (r : ℕ) → Near (2 ^ 30) m r 8404992 × (r < 2 ^ 32) → Ready m r
   ready-first r (n, hr) = record { word = hr; low = twice (2 ^ 30) m r 8404992 n }
 
-  pub ready : (r k : ℕ) → Next (2 ^ 30) m r k → Ready m r
+  pub ready : (r k : ℕ) → NearBelow (2 ^ 30) m r k → Ready m r
   ready r k n = record { word = digit (2 ^ 30) m r k lm n; low = twice (2 ^ 30) m r k (n .near) }
 
-  pub once : (r t : ℕ) → Near (2 ^ 30) m r 8404992 × (r < 2 ^ 32) → t ≡ next (2 ^ 30) m r → Next (2 ^ 30) m (t % 2 ^ 32) 65799
+  pub once : (r t : ℕ) → Near (2 ^ 30) m r 8404992 × (r < 2 ^ 32) → t ≡ next (2 ^ 30) m r → NearBelow (2 ^ 30) m (t % 2 ^ 32) 65799
   once r t (n, hr) e =
-      let i : Next (2 ^ 30) m t 65799 = rw e (next-near (2 ^ 30) m r (omega arith) hm hr 8404992 65799 lm (omega arith) (omega arith) n (omega arith)) in
+      let i : NearBelow (2 ^ 30) m t 65799 = rw e (next-near (2 ^ 30) m r (omega arith) hm hr 8404992 65799 lm (omega arith) (omega arith) n (omega arith)) in
       rw (mod-eq-of-lt (ready t 65799 i .word)) i
 
-  pub again : (r t : ℕ) → Next (2 ^ 30) m r 65799 → t ≡ next (2 ^ 30) m r → Next (2 ^ 30) m t 10
+  pub again : (r t : ℕ) → NearBelow (2 ^ 30) m r 65799 → t ≡ next (2 ^ 30) m r → NearBelow (2 ^ 30) m t 10
   again r t n e =
       rw e (next-near (2 ^ 30) m r (omega arith) hm (ready r 65799 n .word) 65799 10 lm (omega arith) (omega arith) (n .near) (omega arith))
 
-  pub narrow-within : (r y : ℕ) → Next (2 ^ 30) m r 65799 → y ≡ last (2 ^ 30) m r → Within (m * 2 ^ 16) (y / 64) × (y / 64 < 2 ^ 24)
+  pub narrow-within : (r y : ℕ) → NearBelow (2 ^ 30) m r 65799 → y ≡ last (2 ^ 30) m r → Within (m * 2 ^ 16) (y / 64) × (y / 64 < 2 ^ 24)
   narrow-within r y n i =
       let e : Ends (2 ^ 30) m y 5 = rw i (last-near (2 ^ 30) m r (omega arith) hm (ready r 65799 n .word) 65799 5 (n .near) (omega arith)) in
       let s : 25 ≤ y = by-contra 25 y (λ l. let l′ : y + 4 ≤ 28 = omega arith in omega (arith, e .hi, mul-le-mul l′ l′)) in
@@ -44,7 +44,7 @@ module _ (m : ℕ) (lm : 2 ^ 30 ≤ m) (hm : m < 2 ^ 32) where
 
 module _ (m : ℕ) (lm : 2 ^ 62 ≤ m) (hm : m < 2 ^ 64) where
   -- what the rounds on the upper half give, for the whole word
-  pub whole : (r : ℕ) → Next (2 ^ 30) (m / 2 ^ 32) r 10 → (r < 2 ^ 32) × Near (2 ^ 62) m (r * 2 ^ 32) (10 * 2 ^ 32)
+  pub whole : (r : ℕ) → NearBelow (2 ^ 30) (m / 2 ^ 32) r 10 → (r < 2 ^ 32) × Near (2 ^ 62) m (r * 2 ^ 32) (10 * 2 ^ 32)
   whole r n =
       let h : r < 2 ^ 32 = digit (2 ^ 30) (m / 2 ^ 32) r 10 (omega arith) n in
       let e : m / 2 ^ 32 * 2 ^ 32 + m % 2 ^ 32 ≡ m = omega arith in

@@ -4,18 +4,18 @@ use Rattle.table_root.proofs.Steps.{wide-room, wide-is}
 use Rattle.table_root.proofs.last_wide.Statement.{statement}
 use Rattle.table_root.proofs.last_wide.Tie as tie
 
-sub-u : tie.Need-sub-u
-sub-u c =
-    let s = c .before .before in
-    wide-room (s .args .m) (s .args .r) (c .before .mul-hi .result) (c .mul-hi2 .result) (c .before .mul-hi .ensures) (c .mul-hi2 .ensures)
-    (s .fits .m .fits) (s .fits .r .fits) (s .pre)
-
 returns : tie.Need-returns
 returns c =
     let b = c .before in
     let s = b .before .before in
     wide-is (s .args .m) (s .args .r) (b .before .mul-hi .result) (b .mul-hi2 .result) (b .before .mul-hi .ensures) (b .mul-hi2 .ensures)
     (c .mul-hi3 .result) (c .mul-hi3 .ensures)
+
+sub-u : tie.Need-sub-u
+sub-u c =
+    let s = c .before .before in
+    wide-room (s .args .m) (s .args .r) (c .before .mul-hi .result) (c .mul-hi2 .result) (c .before .mul-hi .ensures) (c .mul-hi2 .ensures)
+    (s .fits .m .fits) (s .fits .r .fits) (s .pre)
 
 mul-hi-requires : tie.Need-mul-hi-requires
 mul-hi-requires c κs = search needs

@@ -1,7 +1,7 @@
 -- The table's guess and two rounds, on the upper half (Steps). Assumes nothing.
 use Prim.Native.Nat.{ℕ, _/_, _%_, _^_, _≤_, _<_}
 use native.Mathlib.Omega.{arith}
-use Rattle.goldschmidt.specs.Near.{Near, Next}
+use Rattle.goldschmidt.specs.Near.{Near, NearBelow}
 use Rattle.reciprocals.proofs.Rule.{start-near}
 use Rattle.table_root.proofs.Steps.{ready-first, ready, once, again, whole}
 use Rattle.table_root.proofs.reciprocal_root.Statement.{statement}
@@ -26,7 +26,7 @@ module _ (c : tie.After-reciprocal) where
 abbrev t : tie.After-refined → ℕ
 t c = c .refined .result % 2 ^ 32
 
-once-refined : (c : tie.After-refined) → Next (2 ^ 30) (h (c .before)) (t c) 65799
+once-refined : (c : tie.After-refined) → NearBelow (2 ^ 30) (h (c .before)) (t c) 65799
 once-refined c =
     let b = c .before in
     once (h b) (least b) (most b) (b .reciprocal .result) (c .refined .result) (start b) (c .refined .ensures)

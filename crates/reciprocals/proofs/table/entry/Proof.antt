@@ -5,6 +5,9 @@ use Rattle.reciprocals.proofs.Rule.{entry-small}
 use Rattle.reciprocals.proofs.table.entry.Statement.{statement}
 use Rattle.reciprocals.proofs.table.entry.Tie as tie
 
+returns : tie.Need-returns
+returns c = search needs
+
 cast-result : tie.Need-cast-result
 cast-result c = record { fits = omega (arith, entry-small (c .args .i) (c .pre)) }
 
@@ -13,9 +16,6 @@ mul-result c = search needs
 
 array-read-result : tie.Need-array-read-result
 array-read-result c = search needs
-
-returns : tie.Need-returns
-returns c = search needs
 
 pub entry-spec : {M : Type 1} → statement M
 entry-spec = tie.close (tie.spec mul-result array-read-result cast-result returns)

@@ -9,6 +9,9 @@ use Rattle.root.proofs.Rows.{sqrt-pattern}
 use Rattle.root.proofs.sqrt.aside32.Statement.{statement}
 use Rattle.root.proofs.sqrt.aside32.Tie as tie
 
+returns : tie.Need-returns
+returns c = search needs
+
 by-class-requires : tie.Need-by-class-requires
 by-class-requires c κs = (fits32, omega arith, sym (c .before .has-no-root .ensures) ∙ c .if1 .taken)
 
@@ -22,9 +25,6 @@ cast-result c =
 
 has-no-root-requires : tie.Need-has-no-root-requires
 has-no-root-requires c κs = search needs
-
-returns : tie.Need-returns
-returns c = search needs
 
 returns-2 : tie.Need-returns-2
 returns-2 c = search needs

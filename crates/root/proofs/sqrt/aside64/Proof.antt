@@ -8,6 +8,9 @@ use Rattle.root.proofs.Asides.{rooted-above}
 use Rattle.root.proofs.sqrt.aside64.Statement.{statement}
 use Rattle.root.proofs.sqrt.aside64.Tie as tie
 
+returns : tie.Need-returns
+returns c = search needs
+
 by-class-requires : tie.Need-by-class-requires
 by-class-requires c κs = (fits64, omega arith, sym (c .before .has-no-root .ensures) ∙ c .if1 .taken)
 
@@ -16,9 +19,6 @@ rooted64-requires c κs = rooted-above b64 (c .before .before .args .x) (sym (c 
 
 has-no-root-requires : tie.Need-has-no-root-requires
 has-no-root-requires c κs = search needs
-
-returns : tie.Need-returns
-returns c = search needs
 
 returns-2 : tie.Need-returns-2
 returns-2 c = search needs
