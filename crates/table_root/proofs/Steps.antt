@@ -10,32 +10,32 @@ use Rattle.goldschmidt.specs.Round.{next, last}
 use Rattle.goldschmidt.proofs.Cuts.{twice}
 use Rattle.goldschmidt.proofs.Rounds.{widen, digit}
 use Rattle.goldschmidt.proofs.Lasts.{Ends, reach, almost, within}
-use Rattle.goldschmidt.proofs.Steps.{safe, next-near, last-near}
+use Rattle.goldschmidt.proofs.Steps.{Safe, safe, next-near, last-near}
+use Rattle.table_root.specs.Guess.{Takes}
 
--- a guess that a round can take
-pub record Ready (m r : ℕ) : Type 0 where
-  pub word : r < 2 ^ 32
-  pub low : m * (r * r) ≤ 2 ^ 95
+-- none of a round's products passes the word, and its factor is not below zero
+pub all-safe : (m r : ℕ) → Takes m r → Safe (2 ^ 30) m r
+all-safe m r t = safe (2 ^ 30) m r (omega arith) (t .number) (t .guess) (t .low)
 
 module _ (m : ℕ) (lm : 2 ^ 30 ≤ m) (hm : m < 2 ^ 32) where
-  pub ready-first : (r : ℕ) → Near (2 ^ 30) m r 8404992 × (r < 2 ^ 32) → Ready m r
-  ready-first r (n, hr) = record { word = hr; low = twice (2 ^ 30) m r 8404992 n }
+  pub ready-first : (r : ℕ) → Near (2 ^ 30) m r 8404992 × (r < 2 ^ 32) → Takes m r
+  ready-first r (n, hr) = record { number = hm; guess = hr; low = twice (2 ^ 30) m r 8404992 n }
 
-  pub ready : (r k : ℕ) → NearBelow (2 ^ 30) m r k → Ready m r
-  ready r k n = record { word = digit (2 ^ 30) m r k lm n; low = twice (2 ^ 30) m r k (n .near) }
+  pub ready : (r k : ℕ) → NearBelow (2 ^ 30) m r k → Takes m r
+  ready r k n = record { number = hm; guess = digit (2 ^ 30) m r k lm n; low = twice (2 ^ 30) m r k (n .near) }
 
   pub once : (r t : ℕ) → Near (2 ^ 30) m r 8404992 × (r < 2 ^ 32) → t ≡ next (2 ^ 30) m r → NearBelow (2 ^ 30) m (t % 2 ^ 32) 65799
   once r t (n, hr) e =
       let i : NearBelow (2 ^ 30) m t 65799 = rw e (next-near (2 ^ 30) m r (omega arith) hm hr 8404992 65799 lm (omega arith) (omega arith) n (omega arith)) in
-      rw (mod-eq-of-lt (ready t 65799 i .word)) i
+      rw (mod-eq-of-lt (ready t 65799 i .guess)) i
 
   pub again : (r t : ℕ) → NearBelow (2 ^ 30) m r 65799 → t ≡ next (2 ^ 30) m r → NearBelow (2 ^ 30) m t 10
   again r t n e =
-      rw e (next-near (2 ^ 30) m r (omega arith) hm (ready r 65799 n .word) 65799 10 lm (omega arith) (omega arith) (n .near) (omega arith))
+      rw e (next-near (2 ^ 30) m r (omega arith) hm (ready r 65799 n .guess) 65799 10 lm (omega arith) (omega arith) (n .near) (omega arith))
 
   pub narrow-within : (r y : ℕ) → NearBelow (2 ^ 30) m r 65799 → y ≡ last (2 ^ 30) m r → Within (m * 2 ^ 16) (y / 64) × (y / 64 < 2 ^ 24)
   narrow-within r y n i =
-      let e : Ends (2 ^ 30) m y 5 = rw i (last-near (2 ^ 30) m r (omega arith) hm (ready r 65799 n .word) 65799 5 (n .near) (omega arith)) in
+      let e : Ends (2 ^ 30) m y 5 = rw i (last-near (2 ^ 30) m r (omega arith) hm (ready r 65799 n .guess) 65799 5 (n .near) (omega arith)) in
       let s : 25 ≤ y = by-contra 25 y (λ l. let l′ : y + 4 ≤ 28 = omega arith in omega (arith, e .hi, mul-le-mul l′ l′)) in
       let b : m * 2 ^ 30 < 4 * ((y + 32 + 1) * (y + 32 + 1)) = reach (2 ^ 30) m y 5 32 (omega arith) (omega arith) s e in
       let a : Almost (m * 2 ^ 18) (y / 32) = almost 32 y (y / 32) (m * 2 ^ 18) (omega arith) (omega arith) (omega arith) (omega (arith, e .lo)) (omega arith) in

@@ -1,1 +1,2 @@
+pub mod Guess
 pub mod Residual

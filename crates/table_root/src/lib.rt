@@ -2,9 +2,10 @@
 ghost use mathlib.Core.Path.{_≡_};
 ghost use Prim.Native.Nat.{_-_, _*_, _/_, _%_, _≤_, _<_, _^_};
 ghost use Rattle.goldschmidt.specs.Near.{Near, Within};
-ghost use Rattle.goldschmidt.specs.Round.{next, last};
+ghost use Rattle.goldschmidt.specs.Round.{rootBy, factor, next, last};
 ghost use Rattle.reciprocals.specs.Table.{Serves};
 ghost use Rattle.roots.specs.Floor.{pairs};
+ghost use Rattle.table_root.specs.Guess.{Takes};
 ghost use Rattle.table_root.specs.Residual.{Residual};
 use products::mul_hi;
 use products::mul_lo;
@@ -16,26 +17,38 @@ pub struct Close {
     pub rem: u64,
 }
 
+// What a round on half words begins with: √m by the guess, and 3 less the product of both.
+struct Round {
+    root: u64,
+    factor: u64,
+}
+
+fn begun(m: u64, r: u64) -> Round
+    requires { ⌜ Takes m r ⌝ }
+    ensures { λ b. ⌜ (b .root ≡ rootBy (2 ^ 30) m r) × (b .factor ≡ factor (2 ^ 30) m r) ⌝ }
+{
+    let root = m * r / 0x1_0000_0000;
+    let square = root * r / 0x1_0000_0000;
+    let factor = 0xbfff_fffe - square;
+    Round { root, factor }
+}
+
 // A round on half words: the reciprocal root refined.
 fn refined(m: u64, r: u64) -> u64
-    requires { ⌜ (m < 2 ^ 32) × (r < 2 ^ 32) × (m * (r * r) ≤ 2 ^ 95) ⌝ }
+    requires { ⌜ Takes m r ⌝ }
     ensures { λ q. ⌜ q ≡ next (2 ^ 30) m r ⌝ }
 {
-    let s = m * r / 0x1_0000_0000;
-    let d = s * r / 0x1_0000_0000;
-    let u = 0xbfff_fffe - d;
-    r * u / 0x8000_0000
+    let b = begun(m, r);
+    r * b.factor / 0x8000_0000
 }
 
 // The last round on half words gives √m, with 29 fraction bits.
 fn last_narrow(m: u64, r: u64) -> u64
-    requires { ⌜ (m < 2 ^ 32) × (r < 2 ^ 32) × (m * (r * r) ≤ 2 ^ 95) ⌝ }
+    requires { ⌜ Takes m r ⌝ }
     ensures { λ q. ⌜ q ≡ last (2 ^ 30) m r ⌝ }
 {
-    let s = m * r / 0x1_0000_0000;
-    let d = s * r / 0x1_0000_0000;
-    let u = 0xbfff_fffe - d;
-    s * u / 0x1_0000_0000
+    let b = begun(m, r);
+    b.root * b.factor / 0x1_0000_0000
 }
 
 // √m cut to 24 bits. The remainder tells the compiler that the reciprocal root is half a word.

@@ -26,14 +26,10 @@ reciprocal-requires : tie.Need-reciprocal-requires
 reciprocal-requires c κs = c .pre .2 .at
 
 refined-requires : tie.Need-refined-requires
-refined-requires c κs =
-    let d = ready-first (m c) (omega arith) (omega arith) (c .reciprocal .result) (start c) in
-    (omega arith, d .word, d .low)
+refined-requires c κs = ready-first (m c) (omega arith) (omega arith) (c .reciprocal .result) (start c)
 
 last-narrow-requires : tie.Need-last-narrow-requires
-last-narrow-requires c κs =
-    let d = ready (m (c .before)) (omega arith) (omega arith) (t c) 65799 (once-refined c) in
-    (omega arith, d .word, d .low)
+last-narrow-requires c κs = ready (m (c .before)) (omega arith) (omega arith) (t c) 65799 (once-refined c)
 
 returns : tie.Need-returns
 returns c =

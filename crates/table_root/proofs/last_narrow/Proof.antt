@@ -1,28 +1,21 @@
--- No product passes the word, and the factor is not below zero (goldschmidt: Steps). Assumes nothing.
-use Prim.Native.Nat.{_^_}
-use native.Mathlib.Omega.{arith}
+-- The round's last product fits in a word (Steps). Assumes nothing.
+use mathlib.Core.Path.{ap₂}
+use Prim.Native.Nat.{_*_, _/_, _^_}
 use borrow.Author.Needs.{needs}
-use Rattle.goldschmidt.proofs.Steps.{Safe, safe}
+use Rattle.table_root.proofs.Steps.{all-safe}
 use Rattle.table_root.proofs.last_narrow.Statement.{statement}
 use Rattle.table_root.proofs.last_narrow.Tie as tie
 
-all : (c : tie.Start) → Safe (2 ^ 30) (c .args .m) (c .args .r)
-all c = safe (2 ^ 30) (c .args .m) (c .args .r) (omega arith) (c .pre .0) (c .pre .1) (c .pre .2)
-
-mul-s : tie.Need-mul-s
-mul-s c = record { fits = all c .mr }
-
-mul-d : tie.Need-mul-d
-mul-d c = record { fits = all c .sr }
-
-sub-u : tie.Need-sub-u
-sub-u c = omega (arith, all c .d)
+returns : tie.Need-returns
+returns c = ap₂ (λ a k. a * k / 2 ^ 32) (c .before .begun .ensures .0) (c .before .begun .ensures .1)
 
 mul-result : tie.Need-mul-result
-mul-result c = record { fits = all c .su }
+mul-result c =
+    let s = c .before .before in
+    record { fits = rw (c .before .begun .ensures .0, c .before .begun .ensures .1) (all-safe (s .args .m) (s .args .r) (s .pre) .su) }
 
-returns : tie.Need-returns
-returns c = search needs
+begun-requires : tie.Need-begun-requires
+begun-requires c κs = search needs
 
 pub last-narrow-spec : {M : Type 1} → statement M
-last-narrow-spec = tie.close (tie.spec mul-s mul-d sub-u mul-result returns)
+last-narrow-spec = tie.close (tie.spec begun-requires mul-result returns)

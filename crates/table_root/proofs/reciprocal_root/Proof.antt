@@ -35,15 +35,12 @@ reciprocal-requires : tie.Need-reciprocal-requires
 reciprocal-requires c κs = c .pre .1 .at
 
 refined-requires : tie.Need-refined-requires
-refined-requires c κs =
-    let d = ready-first (h c) (least c) (most c) (c .reciprocal .result) (start c) in
-    (most c, d .word, d .low)
+refined-requires c κs = ready-first (h c) (least c) (most c) (c .reciprocal .result) (start c)
 
 refined-requires-2 : tie.Need-refined-requires-2
 refined-requires-2 c κs =
     let b = c .before in
-    let d = ready (h b) (least b) (most b) (t c) 65799 (once-refined c) in
-    (most b, d .word, d .low)
+    ready (h b) (least b) (most b) (t c) 65799 (once-refined c)
 
 returns : tie.Need-returns
 returns c =
