@@ -2,7 +2,7 @@
 --
 -- A heading is a demand, in the words of README.md. A theorem is about a definition of crates/ieee/specs, over every fair format; the line "code" above it names the
 -- functions whose contracts are equations with that definition, at 64 and 32 bits.
-use Prim.Native.Nat.{ℕ, suc, _*_, _<_}
+use Prim.Native.Nat.{ℕ, suc, _*_, _^_, _<_}
 use mathlib.Core.Path.{_≡_}
 use mathlib.Core.Logic.{_↔_}
 use mathlib.Core.Bool.{Bool, true}
@@ -39,6 +39,8 @@ use Rattle.ieee.proofs.Reductions.{ReducedAs, reduction-is, reduction-only}
 use Rattle.ieee.proofs.ListCalls.{ListedAs, list-of-is, list-only}
 use Rattle.ieee.proofs.Cases.{cases}
 use Rattle.ieee.proofs.Lazy.{Lazy, lazy}
+use Rattle.reciprocals.specs.Table.{entryOf, Serves}
+use Rattle.reciprocals.proofs.Rule.{between}
 use Rattle.roots.specs.Floor.{FloorRoot}
 use Rattle.table_root.specs.Residual.{Residual, floorBy, exactBy}
 use Rattle.table_root.proofs.Wholes.{alike}
@@ -152,6 +154,11 @@ scalbn-rounds-once f g x u n h =
 -- of a whole number n: t and e are the root rounded down and whether it is exact; q is a whole number next to the root, and rem its residual
 pub routes-find-one-root : (n t q rem : ℕ) (e : Bool) → FloorRoot n t × (e ≡ eqb (t * t) n) → Residual n q rem → (t ≡ floorBy q rem) × (e ≡ exactBy q rem)
 routes-find-one-root n t q rem e f r = alike n q rem r t e f
+
+-- code: `entry`, `reciprocal` (crates/reciprocals)
+-- the table that the quick route begins with: for an entry T and any m of the step that it serves, m counted with 30 fraction bits, T² m lies strictly between 65280² and 65792²
+pub table-holds-its-rule : (i m : ℕ) → Serves i m → (65280 ^ 2 * 2 ^ 30 < entryOf i * entryOf i * m) × (entryOf i * entryOf i * m < 65792 ^ 2 * 2 ^ 30)
+table-holds-its-rule = between
 
 -- code: `of_pattern`, by digits; `sqrt64`, `sqrt32`, by the table; the statuses, which take no root (crates/root)
 -- of a pattern x: whatever meets the contract of either route, with the contract of the status, is one answer

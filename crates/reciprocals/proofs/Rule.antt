@@ -32,20 +32,21 @@ rule : (i : ℕ) → i < 128 → T (low i && high i)
 rule i h = every-at (λ k. low k && high k) 128 tt i h
 
 -- so on the whole step
-served : (i m : ℕ) → Serves i m → Near (2 ^ 30) m (entryOf i * 2 ^ 16) 8404992
-served i m s =
+pub between : (i m : ℕ) → Serves i m → (65280 ^ 2 * 2 ^ 30 < entryOf i * entryOf i * m) × (entryOf i * entryOf i * m < 65792 ^ 2 * 2 ^ 30)
+between i m s =
     let t = rule i (s .at) in
-    near (entryOf i)
+    inside (entryOf i)
     (ltb→lt (65280 ^ 2 * 2 ^ 30) (entryOf i * entryOf i * first i) (and-l (low i) (high i) t))
     (ltb→lt (entryOf i * entryOf i * past i) (65792 ^ 2 * 2 ^ 30) (and-r (low i) (high i) t))
   where
-    near : (x : ℕ) → 65280 ^ 2 * 2 ^ 30 < x * x * first i → x * x * past i < 65792 ^ 2 * 2 ^ 30 → Near (2 ^ 30) m (x * 2 ^ 16) 8404992
-    near x lo hi =
-        record {
-          lo = omega (arith, times-le (x * x) (s .from));
-          hi = omega (arith, times-le (x * x) (s .to));
-          small = omega arith;
-        }
+    inside : (x : ℕ) → 65280 ^ 2 * 2 ^ 30 < x * x * first i → x * x * past i < 65792 ^ 2 * 2 ^ 30 → (65280 ^ 2 * 2 ^ 30 < x * x * m) × (x * x * m < 65792 ^ 2 * 2 ^ 30)
+    inside x lo hi = (omega (arith, times-le (x * x) (s .from)), omega (arith, times-le (x * x) (s .to)))
+
+served : (i m : ℕ) → Serves i m → Near (2 ^ 30) m (entryOf i * 2 ^ 16) 8404992
+served i m s = near (entryOf i) (between i m s)
+  where
+    near : (x : ℕ) → (65280 ^ 2 * 2 ^ 30 < x * x * m) × (x * x * m < 65792 ^ 2 * 2 ^ 30) → Near (2 ^ 30) m (x * 2 ^ 16) 8404992
+    near x (lo, hi) = record { lo = omega arith; hi = omega arith; small = omega arith }
 
 -- and what is read of it there is near, and half a word
 pub start-near : (i m r : ℕ) → Serves i m → r ≡ entryOf i * 2 ^ 16 → Near (2 ^ 30) m r 8404992 × (r < 2 ^ 32)
