@@ -5,9 +5,8 @@ use mathlib.Core.Bool.{Bool, false}
 use native.Mathlib.Omega.{arith}
 use lib.Dec.{eqb}
 use lib.IntN.{pos}
-use lib.Pow.{pow-add, pow-pos, pow-mono}
-use borrow.Author.Tests.{eqb-true, lt-ltb, le-ltb}
-use Rattle.algebra.proofs.Products.{order, times-le}
+use lib.Pow.{pow-add, pow-mono}
+use borrow.Author.Tests.{eqb-true}
 use Rattle.algebra.proofs.Integers.{addZ, eqZ-fact}
 use Rattle.ieee.specs.Round.{ties-to-even, answer}
 use Rattle.ieee.specs.Scalbn.{scaled}
@@ -18,21 +17,11 @@ use Rattle.norms.specs.Norm.{placeOf}
 use Rattle.norms.proofs.Places.{place-bounds}
 use Rattle.roots.specs.Floor.{FloorRoot, pairs}
 use Rattle.roots.proofs.Digits.{root-small}
-use Rattle.table_root.specs.Residual.{nearestBy}
 use Rattle.table_root.proofs.Wholes.{longer-root, nearest-alike}
-use Rattle.rooting.specs.Split.{lift, square, halfOf, markedBy, wordOf, Above, Parts, Leads, Room, NearestRoot}
+use Rattle.rooting.specs.Split.{lift, square, halfOf, markedBy, wordOf, Above, Parts, Leads, Ready, NearestRoot}
 use Rattle.rooting.proofs.Joins.{NormalRoot, even-root, nearest-is}
 use Rattle.rooting.proofs.Rootings.{root-answer, root-long, up-least, up-most}
 use Rattle.rooting.proofs.Splits.{fraction-few, leads, word-room, word-squares, word-fourfold}
-
--- a nearest number fits in a word, with the sign's bit to spare
-pub nearest-room : {p e : ℕ} → Fits p e → (q up : ℕ) → Room (format p e) q up → (unit : ℕ) → unit ≡ 2 ^ p → (up / 2 - 2) * unit + q + 1 < 2 ^ (p + e)
-nearest-room {p} {e} w q up n unit i =
-    let l : up / 2 - 2 + 3 ≤ 2 ^ e = omega (arith, n .from, n .to) in
-    rw i (omega (arith, n .most, times-le (2 ^ p) l, pow-add 2 p e, pow-pos p))
-
-pub one-more : (q rem : ℕ) → nearestBy q rem ≤ q + 1
-one-more q rem = order rem q (λ l. rw (le-ltb q rem l) (omega arith)) (λ l. rw (lt-ltb q rem l) (omega arith))
 
 module _ {p e : ℕ} (w : Fits p e) (x : ℕ) (a : Above (format p e) x) (sig up : ℕ) (h : Parts (format p e) x sig up) where
   pub up-small : up < 2 ^ 18
@@ -55,20 +44,17 @@ module _ {p e : ℕ} (w : Fits p e) (x : ℕ) (a : Above (format p e) x) (sig up
   pub root-fits : (t : ℕ) → FloorRoot (pairs word (p + 2)) t → t < 2 ^ 60
   root-fits t r = omega (arith, small t r, pow-mono {i = p + 2} {j = 60} (omega (arith, fraction-few w)))
 
-  -- the lifted exponent of a format whose fraction leaves room below the bias
-  pub up-from : p + 2 ≤ 2 ^ (e - 1) → 4 ≤ up
-  up-from l = up-least (format p e) (w .fair) x (a .some) up (h .up-is) l
-
-  pub up-to : up / 2 < 2 ^ e
-  up-to = up-most (format p e) (w .fair) x (a .some) up (h .up-is)
+  -- what the table asks of the parts, in a format whose fraction leaves room below the bias
+  pub ready : p + 2 ≤ 2 ^ (e - 1) → Ready (format p e) sig up
+  ready l = record { leads = led; from = up-least (format p e) (w .fair) x (a .some) up (h .up-is) l; to = up-most (format p e) (w .fair) x (a .some) up (h .up-is) }
 
   normal-root : p + 2 ≤ 2 ^ (e - 1) → (t : ℕ) → FloorRoot (pairs word (p + 2)) t → NormalRoot (format p e) t up
   normal-root l t r =
       record {
         least = root-long (format p e) (w .fair) x (a .some) up (h .up-is) t (subst (λ n. FloorRoot n t) square-is r);
         most = omega (arith, small t r, pow-add 2 p 2);
-        from = up-from l;
-        to = up-to;
+        from = ready l .from;
+        to = ready l .to;
       }
 
   answers : (t : ℕ) (b : Bool) → FloorRoot (pairs word (p + 2)) t × (b ≡ eqb (t * t) (pairs word (p + 2)))

@@ -52,7 +52,13 @@ wordOf p sig up = sig * 2 ^ (62 - p + up % 2)
 abbrev pub nearestOf : ℕ → ℕ → ℕ → ℕ → ℕ
 nearestOf p root rem up = (up / 2 - 2) * 2 ^ p + nearestBy root rem
 
--- it fits in a word
+-- what the table asks of the parts
+pub record Ready (f : Format) (sig up : ℕ) : Type 0 where
+  pub leads : Leads (f .frac) sig
+  pub from : 4 ≤ up
+  pub to : up / 2 < 2 ^ f .expo
+
+-- and of the root, so that the number fits in a word
 pub record Room (f : Format) (root up : ℕ) : Type 0 where
   pub most : root < 2 * 2 ^ f .frac
   pub from : 4 ≤ up

@@ -12,7 +12,7 @@ ghost use Rattle.ieee.specs.Scalbn.{scaled};
 ghost use Rattle.ieee.specs.Sqrt.{sqrtOf};
 ghost use Rattle.fields.specs.Width.{format, Fits};
 ghost use Rattle.reciprocals.specs.Table.{Serves};
-ghost use Rattle.rooting.specs.Split.{lift, halfOf, markedBy, wordOf, nearestOf, Above, Parts, Leads, Room, NearestRoot};
+ghost use Rattle.rooting.specs.Split.{lift, halfOf, markedBy, wordOf, nearestOf, Above, Parts, Leads, Ready, Room, NearestRoot};
 use bits::pow;
 use fields::exponent_field;
 use fields::fraction_field;
@@ -124,7 +124,7 @@ pub fn rooted(frac: u32, expo: u32, x: u64) -> u64
 
 // The root of a significand at a lifted exponent, by the table, at 64 bits and at 32. Each width has one body, so that the compiler lays it out for that width.
 fn by_table64(sig: u64, up: u32) -> u64
-    requires { ⌜ Leads 52 sig × (4 ≤ up) × (up / 2 < 2 ^ 11) ⌝ }
+    requires { ⌜ Ready b64 sig up ⌝ }
     ensures { λ r. ⌜ NearestRoot 52 sig up r ⌝ }
 {
     let close = wide(word_of(52, sig, up), step_of(52, sig, up));
@@ -132,7 +132,7 @@ fn by_table64(sig: u64, up: u32) -> u64
 }
 
 fn by_table32(sig: u64, up: u32) -> u32
-    requires { ⌜ Leads 23 sig × (4 ≤ up) × (up / 2 < 2 ^ 8) ⌝ }
+    requires { ⌜ Ready b32 sig up ⌝ }
     ensures { λ r. ⌜ NearestRoot 23 sig up r ⌝ }
 {
     let close = narrow(word_of(23, sig, up), step_of(23, sig, up));

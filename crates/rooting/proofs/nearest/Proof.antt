@@ -1,18 +1,19 @@
--- The number fits in a word (Halves). Assumes nothing.
+-- The number fits in a word (Tables). Assumes nothing.
 use Prim.Native.Nat.{_+_, _-_, _*_, _/_, _<_, _^_}
 use mathlib.Core.Path.{ap, _∙_}
 use native.Mathlib.Omega.{arith}
 use borrow.Author.Needs.{needs}
 use borrow.Author.Tests.{lt-ltb, le-ltb}
 use lib.Pow.{pow-mono}
-use Rattle.rooting.proofs.Halves.{nearest-room}
+use Rattle.fields.specs.Width.{format}
+use Rattle.rooting.proofs.Tables.{next-room}
 use Rattle.rooting.proofs.nearest.Statement.{statement}
 use Rattle.rooting.proofs.nearest.Tie as tie
 
 room : (c : tie.After-pow) → (c .before .args .up / 2 - 2) * c .pow .result + c .before .args .root + 1 < 2 ^ 63
 room c =
     let s = c .before in
-    omega (arith, nearest-room (s .pre .0) (s .args .root) (s .args .up) (s .pre .1) (c .pow .result) (c .pow .ensures), pow-mono {i = s .args .frac + s .args .expo} {j = 63} (s .pre .0 .word))
+    omega (arith, next-room (format (s .args .frac) (s .args .expo)) (s .args .root) (s .args .up) (s .pre .1) (c .pow .result) (c .pow .ensures), pow-mono {i = s .args .frac + s .args .expo} {j = 63} (s .pre .0 .word))
 
 mul-below : tie.Need-mul-below
 mul-below c = record { fits = omega (arith, room c) }

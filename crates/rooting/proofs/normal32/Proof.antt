@@ -1,15 +1,12 @@
 -- The parts are the number's, and so is their root (Halves). Assumes nothing.
 use native.Mathlib.Omega.{arith}
 use Rattle.fields.proofs.Widths.{fits32}
-use Rattle.rooting.proofs.Halves.{led, up-from, up-to, nearest-answers}
+use Rattle.rooting.proofs.Halves.{ready, nearest-answers}
 use Rattle.rooting.proofs.normal32.Statement.{statement}
 use Rattle.rooting.proofs.normal32.Tie as tie
 
 by-table32-requires : tie.Need-by-table32-requires
-by-table32-requires c κs =
-    let s = c .before in
-    let h = c .normal-apart .ensures in
-    (led fits32 (s .args .x) (s .pre .0) _ _ h, up-from fits32 (s .args .x) (s .pre .0) _ _ h (omega arith), up-to fits32 (s .args .x) (s .pre .0) _ _ h)
+by-table32-requires c κs = let s = c .before in ready fits32 (s .args .x) (s .pre .0) _ _ (c .normal-apart .ensures) (omega arith)
 
 returns : tie.Need-returns
 returns c =

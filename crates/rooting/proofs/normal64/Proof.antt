@@ -1,15 +1,12 @@
 -- The parts are the number's, and so is their root (Halves). Assumes nothing.
 use native.Mathlib.Omega.{arith}
 use Rattle.fields.proofs.Widths.{fits64}
-use Rattle.rooting.proofs.Halves.{led, up-from, up-to, nearest-answers}
+use Rattle.rooting.proofs.Halves.{ready, nearest-answers}
 use Rattle.rooting.proofs.normal64.Statement.{statement}
 use Rattle.rooting.proofs.normal64.Tie as tie
 
 by-table64-requires : tie.Need-by-table64-requires
-by-table64-requires c κs =
-    let s = c .before in
-    let h = c .normal-apart .ensures in
-    (led fits64 (s .args .x) (s .pre .0) _ _ h, up-from fits64 (s .args .x) (s .pre .0) _ _ h (omega arith), up-to fits64 (s .args .x) (s .pre .0) _ _ h)
+by-table64-requires c κs = let s = c .before in ready fits64 (s .args .x) (s .pre .0) _ _ (c .normal-apart .ensures) (omega arith)
 
 returns : tie.Need-returns
 returns c =

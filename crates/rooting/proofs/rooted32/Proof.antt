@@ -2,15 +2,12 @@
 use native.Mathlib.Omega.{arith}
 use borrow.Author.Needs.{needs}
 use Rattle.fields.proofs.Widths.{fits32}
-use Rattle.rooting.proofs.Halves.{led, up-from, up-to, nearest-answers}
+use Rattle.rooting.proofs.Halves.{ready, nearest-answers}
 use Rattle.rooting.proofs.rooted32.Statement.{statement}
 use Rattle.rooting.proofs.rooted32.Tie as tie
 
 by-table32-requires : tie.Need-by-table32-requires
-by-table32-requires c κs =
-    let s = c .before in
-    let h = c .taken-apart .ensures in
-    (led fits32 (s .args .x) (s .pre) _ _ h, up-from fits32 (s .args .x) (s .pre) _ _ h (omega arith), up-to fits32 (s .args .x) (s .pre) _ _ h)
+by-table32-requires c κs = let s = c .before in ready fits32 (s .args .x) (s .pre) _ _ (c .taken-apart .ensures) (omega arith)
 
 returns : tie.Need-returns
 returns c =

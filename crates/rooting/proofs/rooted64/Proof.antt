@@ -2,15 +2,12 @@
 use native.Mathlib.Omega.{arith}
 use borrow.Author.Needs.{needs}
 use Rattle.fields.proofs.Widths.{fits64}
-use Rattle.rooting.proofs.Halves.{led, up-from, up-to, nearest-answers}
+use Rattle.rooting.proofs.Halves.{ready, nearest-answers}
 use Rattle.rooting.proofs.rooted64.Statement.{statement}
 use Rattle.rooting.proofs.rooted64.Tie as tie
 
 by-table64-requires : tie.Need-by-table64-requires
-by-table64-requires c κs =
-    let s = c .before in
-    let h = c .taken-apart .ensures in
-    (led fits64 (s .args .x) (s .pre) _ _ h, up-from fits64 (s .args .x) (s .pre) _ _ h (omega arith), up-to fits64 (s .args .x) (s .pre) _ _ h)
+by-table64-requires c κs = let s = c .before in ready fits64 (s .args .x) (s .pre) _ _ (c .taken-apart .ensures) (omega arith)
 
 returns : tie.Need-returns
 returns c =
