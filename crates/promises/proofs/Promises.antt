@@ -10,6 +10,7 @@ use mathlib.Core.List.{List}
 use native.Mathlib.Omega.{arith}
 use lib.Dec.{eqb}
 use lib.IntN.{ℤ}
+use lib.Ieee.{binary64, binary32}
 use Rattle.ieee.specs.Format.{Format, b64, b32, units, Fair}
 use Rattle.ieee.specs.Pattern.{minus, magnitude, finite, kind}
 use Rattle.ieee.specs.Round.{ties-to-even}
@@ -39,6 +40,8 @@ use Rattle.ieee.proofs.Reductions.{ReducedAs, reduction-is, reduction-only}
 use Rattle.ieee.proofs.ListCalls.{ListedAs, list-of-is, list-only}
 use Rattle.ieee.proofs.Cases.{cases}
 use Rattle.ieee.proofs.Lazy.{Lazy, lazy}
+use Rattle.agreement.specs.Agrees.{Agrees}
+use Rattle.agreement.proofs.Agreement.{agrees}
 use Rattle.reciprocals.specs.Table.{entryOf, Serves}
 use Rattle.reciprocals.proofs.Rule.{between}
 use Rattle.roots.specs.Floor.{FloorRoot}
@@ -173,3 +176,12 @@ worked-cases-hold = cases
 -- no lazy answer is the definition's: the canonical NaN to everything, a quotient always zero, all refused, the output untouched, the first place alone filled
 pub lazy-answers-differ : Lazy
 lazy-answers-differ = lazy
+
+-- ======== What others say
+-- the toolchain's own account of IEEE 754, by which it says what f32 and f64 are, agrees: what patterns stand for, how every fraction is rounded to the nearest even, and the operations;
+-- crates/agreement/specs has the statements, and what that account has no word for
+pub agrees64 : Agrees binary64
+agrees64 = agrees binary64
+
+pub agrees32 : Agrees binary32
+agrees32 = agrees binary32

@@ -1,0 +1,2 @@
+pub mod Toolchain
+pub mod Agrees
