@@ -6,38 +6,22 @@ use native.Mathlib.Nat.{mul-pos}
 use native.Mathlib.Omega.{arith, both-ways}
 use borrow.Author.Tests.{lt-ltb, le-ltb}
 use lib.Dec.{ltb}
-use lib.IntN.{ℤ, pos, negℤ, _+ℤ_}
+use lib.IntN.{ℤ, pos, _+ℤ_}
 use lib.Pow.{pow-add, pow-pos}
 use lib.Ieee.{Float, nan as their-nan, inf as their-inf, Format as Theirs, up, down, add, sum, round, toBits}
 use lib.Ieee.Fits.{down-pos}
 use Rattle.algebra.proofs.Products.{order, times, times-le, diff, mul-lt-cancel, mul-eq-cancel}
-use Rattle.algebra.proofs.Integers.{addZ, negZ, eqZ}
 use Rattle.ieee.specs.Format.{low, inf, canonical}
 use Rattle.ieee.specs.Pattern.{Kind, signed, unlike, withSign}
 use Rattle.ieee.specs.Exact.{dyadic}
 use Rattle.ieee.specs.Round.{ties-to-even, answer}
 use Rattle.ieee.specs.Fma.{sumOf, plusBy}
+use Rattle.ieee.proofs.Signs.{signed-zero}
+use Rattle.ieee.proofs.SignedSums.{plus-like, plus-more, plus-less}
 use Rattle.ieee.proofs.Exacts.{answer-of, sign-own, sign-given}
 use Rattle.agreement.specs.Toolchain.{ours, Same, nans, infinities, numbers}
 use Rattle.agreement.proofs.Patterns.{write-nan, write-infinite}
 use Rattle.agreement.proofs.Rounding.{round-as}
-
--- ---- sums of numbers with signs
-plus-like : (s : Bool) (p w : ℕ) → withSign s p +ℤ withSign s w ≡ withSign s (p + w)
-plus-like false p w = refl
-plus-like true p w = eqZ (negℤ (pos p) +ℤ negℤ (pos w)) (negℤ (pos (p + w))) (omega (arith, addZ (negℤ (pos p)) (negℤ (pos w)), negZ (pos p), negZ (pos w), negZ (pos (p + w))))
-
-plus-more : (s : Bool) (p w : ℕ) → w ≤ p → withSign s p +ℤ withSign (not s) w ≡ withSign s (p - w)
-plus-more false p w h = eqZ (pos p +ℤ negℤ (pos w)) (pos (p - w)) (omega (arith, addZ (pos p) (negℤ (pos w)), negZ (pos w)))
-plus-more true p w h = eqZ (negℤ (pos p) +ℤ pos w) (negℤ (pos (p - w))) (omega (arith, addZ (negℤ (pos p)) (pos w), negZ (pos p), negZ (pos (p - w))))
-
-plus-less : (s : Bool) (p w : ℕ) → p ≤ w → withSign s p +ℤ withSign (not s) w ≡ withSign (not s) (w - p)
-plus-less false p w h = eqZ (pos p +ℤ negℤ (pos w)) (negℤ (pos (w - p))) (omega (arith, addZ (pos p) (negℤ (pos w)), negZ (pos w), negZ (pos (w - p))))
-plus-less true p w h = eqZ (negℤ (pos p) +ℤ pos w) (pos (w - p)) (omega (arith, addZ (negℤ (pos p)) (pos w), negZ (pos p)))
-
-plus-none : (s : Bool) (p w : ℕ) → p ≡ w → withSign s p +ℤ withSign (not s) w ≡ pos 0
-plus-none false p w h = eqZ (pos p +ℤ negℤ (pos w)) (pos 0) (omega (arith, addZ (pos p) (negℤ (pos w)), negZ (pos w)))
-plus-none true p w h = eqZ (negℤ (pos p) +ℤ pos w) (pos 0) (omega (arith, addZ (negℤ (pos p)) (pos w), negZ (pos p)))
 
 -- ---- the toolchain's sum, by the signs
 their-like : (k : Theirs) (s : Bool) (a b c : ℕ) → sum k s a s b c ≡ round k s (a + b) c
@@ -130,13 +114,18 @@ module _ (k : Theirs) (a b c p w : ℕ) (C : 0 < c) (A : a * 2 ^ (low (ours k) +
           ∙ sym (answer-of (ours k) ties-to-even false s (p - W) (low (ours k)) (sign-given false s (p - W) (low (ours k)) (omega arith)))
           ∙ ap (λ z. answer (ours k) ties-to-even false (dyadic z (low (ours k)))) (sym (plus-more s p W l′))
 
+      none : p ≡ W → withSign s p +ℤ withSign (not s) W ≡ pos 0
+      none e =
+          let z : p - W ≡ 0 = omega arith in
+          plus-more s p W (omega arith) ∙ ap (withSign s) z ∙ signed-zero s
+
       same : a ≡ b → toBits k (sum k s a (not s) b c) ≡ answer (ours k) ties-to-even false (dyadic (S s (not s)) (low (ours k)))
       same h =
           let z : a - b ≡ 0 = omega arith in
           ap (toBits k) (their-none k s a b c h ∙ ap (λ (n : ℕ). round k false n c) z)
           ∙ round-as k false 0 c 0 P C (pow-pos (low (ours k))) (omega arith)
           ∙ sym (answer-of (ours k) ties-to-even false false 0 (low (ours k)) (sign-own false 0 (low (ours k))))
-          ∙ ap (λ y. answer (ours k) ties-to-even false (dyadic y (low (ours k)))) (sym (plus-none s p W (level h)))
+          ∙ ap (λ y. answer (ours k) ties-to-even false (dyadic y (low (ours k)))) (sym (none (level h)))
 
   sum-same : (s t : Bool) → toBits k (sum k s a t b c) ≡ answer (ours k) ties-to-even (cond (unlike s t) false s) (sumOf (ours k) s p t w)
   unfolding S W P

@@ -24,9 +24,9 @@ use Rattle.agreement.specs.Toolchain.{ours, on, Same, minusZero, oneOf, 
 
 -- ---- what patterns stand for
 pub record Patterns (k : Theirs) : Type 0 where
-  -- the same sign and kind, and for a number the same number
+  -- the same kind, for all but NaNs the same sign, and for a number the same number
   pub reads : (x : ℕ) → Same (low (ours k)) (ofBits k x) (minus (ours k) x) (kind (ours k) x)
-  -- their NaN is written as the canonical one and their infinities as ours; every other pattern is read and written back
+  -- their NaN is written as the canonical one and their infinities as ours; every pattern but a NaN's is written as it was read
   pub nan-written : toBits k their-nan ≡ canonical (ours k)
   pub infinity-written : (s : Bool) → toBits k (their-inf s) ≡ signed (ours k) s (inf (ours k))
   pub written-back : (x : ℕ) → Pattern (ours k) x → (kind (ours k) x ≡ nan → ⊥) → toBits k (ofBits k x) ≡ x
@@ -45,7 +45,7 @@ pub record Rounding (k : Theirs) : Type 0 where
 
 -- ---- their operations: on all patterns, NaNs, infinities and zeros among them, but for division
 pub record Operations (k : Theirs) : Type 0 where
-  -- fma is the sum of the exact product and z; that product is theirs before it is rounded, since -0 added to a value changes nothing else
+  -- our fma is their sum of the exact product and z; and that product is their own before it is rounded, since -0 added rounds a value and changes nothing else
   pub product-rounds : (v w : Float) → mul k v w ≡ add k (product v w) (fin true 0 (pos 0))
   pub fma : (x y z : ℕ) → toBits k (add k (product (ofBits k x) (ofBits k y)) (ofBits k z)) ≡ fmaOf (ours k) x y z
   pub times : (x y : ℕ) → on mul k x y ≡ fmaOf (ours k) x y (minusZero (ours k))
@@ -57,7 +57,7 @@ pub record Operations (k : Theirs) : Type 0 where
   pub fmod : (x y : ℕ) → Pattern (ours k) x → on rem k x y ≡ fmodOf (ours k) x y
   pub scalbn : (x : ℕ) (n : ℤ) → Pattern (ours k) x → toBits k (mul k (ofBits k x) (power n)) ≡ scalbnOf (ours k) x n
 
--- ---- operations that they lack, as made of their parts; rows of NaNs and infinities are then our own
+-- ---- operations that they lack, made of their parts; the rows of NaNs and infinities are ours, but for remquo's, which are their remainder's
 pub record Made (k : Theirs) : Type 0 where
   -- all but NaNs, which trunc and floor give back
   pub trunc : (x : ℕ) → Pattern (ours k) x → (kind (ours k) x ≡ nan → ⊥) → toBits k (truncated k (ofBits k x)) ≡ truncOf (ours k) x
@@ -69,7 +69,7 @@ pub record Made (k : Theirs) : Type 0 where
   pub remquo : (x y : ℕ) → Pattern (ours k) x → on remainder k x y ≡ remquoOf (ours k) x y
   pub quotient : (x y : ℕ) (s t : Bool) (m n : ℕ) (e d : ℤ) → ofBits k x ≡ fin s m e → ofBits k y ≡ fin t n d → 0 < n
       → quotientOf (ours k) x y ≡ withSign (unlike s t) (nearestTo m e n d % 2 ^ 31)
-  -- sqrt of a number without a sign: fractions on both sides of the root are rounded to our answer, and to no other
+  -- sqrt of a number without a sign: some fraction at most the root and some fraction at least the root are rounded to our answer, and to no other pattern are both
   pub root : (x m : ℕ) (e : ℤ) → ofBits k x ≡ fin false m e → RootRounds k m e (sqrtOf (ours k) x)
   pub root-only : (x m : ℕ) (e : ℤ) → ofBits k x ≡ fin false m e → (r : ℕ) → RootRounds k m e r → r ≡ sqrtOf (ours k) x
   -- so, in their order, every fraction at most the root is rounded to at most our answer, and every one at least the root to at least it

@@ -1,14 +1,14 @@
 -- The sum of two numbers with signs, by their magnitudes, and its count of steps. Assumes nothing.
-use Prim.Native.Nat.{ℕ, _+_, _-_, _*_, _%_, _≤_, _<_}
+use Prim.Native.Nat.{ℕ, _-_, _*_, _%_, _≤_, _<_}
 use mathlib.Core.Path.{_≡_, refl, sym, ap, _∙_, subst}
 use mathlib.Core.Bool.{Bool, true, false, cond}
 use native.Mathlib.Omega.{arith}
 use borrow.Author.Tests.{lt-ltb, le-ltb}
 use lib.Dec.{ltb}
-use lib.IntN.{pos, negℤ, _+ℤ_}
+use lib.IntN.{_+ℤ_}
 use Rattle.algebra.proofs.Products.{order, times, times-le, diff}
-use Rattle.algebra.proofs.Integers.{addZ, negZ, eqZ}
 use Rattle.ieee.specs.Pattern.{unlike, withSign}
+use Rattle.ieee.proofs.SignedSums.{plus-like, plus-more, plus-less}
 use Rattle.rounding.specs.Mark.{Marks}
 use Rattle.rounding.proofs.Marks.{marks-sum, marks-minus, marks-over}
 use Rattle.fusing.specs.Aligned.{joined, joinedSign}
@@ -23,26 +23,17 @@ pub sign-first : (s t : Bool) (a b : ℕ) → b ≤ a → joinedSign s t a b ≡
 sign-first s t a b l = ap (λ c. cond c t s) (le-ltb a b l)
 
 -- the greater of two of unlike signs decides, and of like signs either
-pos-pos : (a b : ℕ) → pos a +ℤ pos b ≡ pos (a + b)
-pos-pos a b = eqZ (pos a +ℤ pos b) (pos (a + b)) (omega (arith, addZ (pos a) (pos b)))
-
-neg-neg : (a b : ℕ) → negℤ (pos a) +ℤ negℤ (pos b) ≡ negℤ (pos (a + b))
-neg-neg a b =
-    eqZ (negℤ (pos a) +ℤ negℤ (pos b)) (negℤ (pos (a + b))) (omega (arith, addZ (negℤ (pos a)) (negℤ (pos b)), negZ (pos a), negZ (pos b), negZ (pos (a + b))))
-
 sum-first : (s t : Bool) (a b : ℕ) → b ≤ a → withSign s a +ℤ withSign t b ≡ withSign s (joined (unlike s t) a b)
-sum-first false false a b l = pos-pos a b
-sum-first false true a b l = eqZ (pos a +ℤ negℤ (pos b)) (pos (joined true a b)) (omega (arith, addZ (pos a) (negℤ (pos b)), negZ (pos b)))
-sum-first true false a b l =
-    eqZ (negℤ (pos a) +ℤ pos b) (negℤ (pos (joined true a b))) (omega (arith, addZ (negℤ (pos a)) (pos b), negZ (pos a), negZ (pos (joined true a b))))
-sum-first true true a b l = neg-neg a b
+sum-first false false a b l = plus-like false a b
+sum-first false true a b l = let e : a - b ≡ joined true a b = omega arith in plus-more false a b l ∙ ap (withSign false) e
+sum-first true false a b l = let e : a - b ≡ joined true a b = omega arith in plus-more true a b l ∙ ap (withSign true) e
+sum-first true true a b l = plus-like true a b
 
 sum-second : (s t : Bool) (a b : ℕ) → a ≤ b → withSign s a +ℤ withSign t b ≡ withSign t (joined (unlike s t) a b)
-sum-second false false a b l = pos-pos a b
-sum-second false true a b l =
-    eqZ (pos a +ℤ negℤ (pos b)) (negℤ (pos (joined true a b))) (omega (arith, addZ (pos a) (negℤ (pos b)), negZ (pos b), negZ (pos (joined true a b))))
-sum-second true false a b l = eqZ (negℤ (pos a) +ℤ pos b) (pos (joined true a b)) (omega (arith, addZ (negℤ (pos a)) (pos b), negZ (pos a)))
-sum-second true true a b l = neg-neg a b
+sum-second false false a b l = plus-like false a b
+sum-second false true a b l = let e : b - a ≡ joined true a b = omega arith in plus-less false a b l ∙ ap (withSign true) e
+sum-second true false a b l = let e : b - a ≡ joined true a b = omega arith in plus-less true a b l ∙ ap (withSign false) e
+sum-second true true a b l = plus-like true a b
 
 pub sum-signed : (s t : Bool) (a b : ℕ) → withSign s a +ℤ withSign t b ≡ withSign (joinedSign s t a b) (joined (unlike s t) a b)
 sum-signed s t a b =

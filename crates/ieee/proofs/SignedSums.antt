@@ -1,10 +1,10 @@
--- x = n y + r over the integers, read as a sum of whole numbers without signs. Assumes nothing.
-use Prim.Native.Nat.{ℕ, _+_, _*_, _<_}
-use mathlib.Core.Path.{_≡_, refl, ap, _∙_}
+-- Sums of numbers with signs, by their magnitudes; x = n y + r over the integers, read as a sum without signs. Assumes nothing.
+use Prim.Native.Nat.{ℕ, _+_, _-_, _*_, _≤_, _<_}
+use mathlib.Core.Path.{_≡_, refl, sym, ap, _∙_, subst}
 use mathlib.Core.Logic.{_↔_}
 use mathlib.Core.Bool.{Bool, true, false, not}
 use native.Mathlib.Omega.{arith}
-use lib.IntN.{ℤ, pos, _+ℤ_, _*ℤ_}
+use lib.IntN.{ℤ, pos, negℤ, _+ℤ_, _*ℤ_, +ℤ-comm}
 use Rattle.algebra.proofs.Integers.{up, dn, addZ, negZ, eqZ, eqZ-fact}
 use Rattle.ieee.specs.Format.{Format, units}
 use Rattle.ieee.specs.Pattern.{minus, magnitude, unlike, withSign, value}
@@ -50,7 +50,19 @@ sum-splits s p u w r =
     go true false = omega (arith, negZ (pos u), negZ (pos w))
     go true true = omega (arith, negZ (pos u), negZ (pos w), negZ (pos r))
 
--- x = n y + r, where n is minus if the signs of x and y differ
+-- ---- the sum of two numbers with signs, by their magnitudes
+pub plus-like : (s : Bool) (a b : ℕ) → withSign s a +ℤ withSign s b ≡ withSign s (a + b)
+plus-like s a b = sym (sum-splits s s (a + b) a b .1 (subst (λ c. Splits c (a + b) a b) (sym (unlike-self s)) refl))
+
+pub plus-more : (s : Bool) (a b : ℕ) → b ≤ a → withSign s a +ℤ withSign (not s) b ≡ withSign s (a - b)
+plus-more s a b l = sym (sum-splits s (not s) (a - b) a b .1 (subst (λ c. Splits c (a - b) a b) (sym (unlike-not s)) (omega arith)))
+
+pub plus-less : (s : Bool) (a b : ℕ) → a ≤ b → withSign s a +ℤ withSign (not s) b ≡ withSign (not s) (b - a)
+plus-less false a b l = +ℤ-comm (pos a) (negℤ (pos b)) ∙ plus-more true b a l
+plus-less true a b l = +ℤ-comm (negℤ (pos a)) (pos b) ∙ plus-more false b a l
+
+-- ---- x = n y + r
+-- where n is minus if the signs of x and y differ
 abbrev pub Remains : Format → ℕ → ℕ → ℕ → ℕ → Type 0
 Remains f x y r n = value f x ≡ withSign (unlike (minus f x) (minus f y)) n *ℤ value f y +ℤ value f r
 
