@@ -1,6 +1,6 @@
 -- Our definitions and the toolchain's account of IEEE 754 agree. Assumes nothing.
 use lib.Ieee.{Format as Theirs}
-use Rattle.agreement.specs.Agrees.{Patterns, Rounding, Operations, Made, Agrees}
+use Rattle.agreement.specs.Agrees.{Patterns, Rounding, Operations, Derived, Agrees}
 use Rattle.agreement.proofs.Patterns.{pattern-same, write-nan, write-infinite, write-read}
 use Rattle.agreement.proofs.Orders.{less-same, equal-same}
 use Rattle.agreement.proofs.Rounding.{round-same, round-nearest, answer-same}
@@ -40,8 +40,8 @@ operations k =
       scalbn = scalbn-same k;
     }
 
-made : (k : Theirs) → Made k
-made k =
+derived : (k : Theirs) → Derived k
+derived k =
     record {
       trunc = trunc-same k;
       floor = floor-same k;
@@ -56,4 +56,4 @@ made k =
     }
 
 pub agrees : (k : Theirs) → Agrees k
-agrees k = record { patterns = patterns k; rounding = rounding k; operations = operations k; made = made k }
+agrees k = record { patterns = patterns k; rounding = rounding k; operations = operations k; derived = derived k }

@@ -11,7 +11,7 @@ use Rattle.algebra.proofs.Powers.{pow-inj-lt}
 use Rattle.ieee.specs.Format.{Format, units, fields}
 use Rattle.ieee.proofs.Units.{units-is, units-at}
 
--- ---- w digits over j places are the magnitude j * 2 ^ frac + w; w may reach 2 ^ (frac + 1), where a place is gained
+-- ---- a significand w at the exponent j is the magnitude j * 2 ^ frac + w; w may reach 2 ^ (frac + 1), which has one digit more
 pub digits-units : (f : Format) (j w : ℕ) → (0 < j → 2 ^ f .frac ≤ w) → w ≤ 2 * 2 ^ f .frac → units f (j * 2 ^ f .frac + w) ≡ w * 2 ^ j
 digits-units f j w b h = order (2 ^ f .frac) w (λ l. order (2 * 2 ^ f .frac) w (full l) (part l)) (λ l. low j b l)
   where

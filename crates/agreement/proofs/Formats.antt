@@ -11,7 +11,7 @@ pub fair : (k : Theirs) → Fair (ours k)
 fair binary32 = fair32
 fair binary64 = fair64
 
--- digits with the leading one, the place of the smallest unit, the weights of the exponent field and of the sign, the highest field
+-- digits with the leading one, the exponent of the smallest unit, the weights of the exponent field and of the sign, the highest field
 pub prec-is : (k : Theirs) → prec k ≡ suc (ours k .frac)
 prec-is binary32 = refl
 prec-is binary64 = refl

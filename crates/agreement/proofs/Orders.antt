@@ -18,7 +18,7 @@ use Rattle.ieee.specs.Pattern.{minus, withSign, value, finite, kind}
 use Rattle.ieee.proofs.Patterns.{value-finite}
 use Rattle.ieee.proofs.Signs.{signed-tells, signed-zero}
 use Rattle.agreement.specs.Toolchain.{ours}
-use Rattle.agreement.proofs.Patterns.{parted}
+use Rattle.agreement.proofs.Patterns.{unpacked}
 
 -- ---- numbers with signs: one is less, or they are equal
 abbrev Less : Bool → ℕ → Bool → ℕ → Type 0
@@ -112,9 +112,9 @@ module _ (k : Theirs) (x y u v : ℕ) (p : kind (ours k) x ≡ finite u) (q : ki
   says : Compares (ofBits k x) (ofBits k y) (value (ours k) x) (value (ours k) y)
   says =
       let f = ours k in
-      let nx = parted k x u p in
-      let ny = parted k y v q in
-      let c = compares (low f) (minus f x) (minus f y) (nx .digits) (ny .digits) (nx .place) (ny .place) u v (nx .number .counts) (ny .number .counts) in
+      let nx = unpacked k x u p in
+      let ny = unpacked k y v q in
+      let c = compares (low f) (minus f x) (minus f y) (nx .significand) (ny .significand) (nx .exponent) (ny .exponent) u v (nx .number .counts) (ny .number .counts) in
       subst₂ (λ a b. Compares (ofBits k x) (ofBits k y) a b) (sym (value-finite f x u p)) (sym (value-finite f y v q))
       (subst₂ (λ a b. Compares a b (withSign (minus f x) u) (withSign (minus f y) v)) (sym (nx .number .read-as)) (sym (ny .number .read-as)) c)
 

@@ -45,7 +45,7 @@ module _ (k : Theirs) (s : Bool) where
   unfolding ofFields
   of-small t = refl
 
-  -- digits over places are so many units
+  -- a significand c at the exponent j is so many units
   odd-same : (c j u : ℕ) → c * 2 ^ j ≡ u → Same (low (ours k)) (odd (prec k) s c j (their-low k)) s (finite u)
   odd-same c j u e =
       same-value (low (ours k)) (odd (prec k) s c j (their-low k)) s u
@@ -173,20 +173,20 @@ counted k x s m e r = go (pattern-same k x) refl refl r
         record { count = u; number = record { read-as = r; kind-is = q; sign-is = sym a ∙ p; counts = sym (λ i. b i * up (g i) * 2 ^ low (ours k)) ∙ c ∙ (λ i. u * down (g i)) } }
 
 -- it is one of ours, and so it is one of theirs
-pub record Parted (k : Theirs) (x u : ℕ) : Type 0 where
-  pub digits : ℕ
-  pub place : ℤ
-  pub number : Number k x (minus (ours k) x) digits place u
+pub record Unpacked (k : Theirs) (x u : ℕ) : Type 0 where
+  pub significand : ℕ
+  pub exponent : ℤ
+  pub number : Number k x (minus (ours k) x) significand exponent u
 
-pub parted : (k : Theirs) (x u : ℕ) → kind (ours k) x ≡ finite u → Parted k x u
-parted k x u h = go (pattern-same k x) refl refl h
+pub unpacked : (k : Theirs) (x u : ℕ) → kind (ours k) x ≡ finite u → Unpacked k x u
+unpacked k x u h = go (pattern-same k x) refl refl h
   where
-    go : {v : Float} {t : Bool} {d : Kind} → Same (low (ours k)) v t d → ofBits k x ≡ v → t ≡ minus (ours k) x → d ≡ finite u → Parted k x u
+    go : {v : Float} {t : Bool} {d : Kind} → Same (low (ours k)) v t d → ofBits k x ≡ v → t ≡ minus (ours k) x → d ≡ finite u → Unpacked k x u
     go (nans t) r p q = absurd (let z : _≡_ {A = ℕ} 0 1 = cc in omega arith)
     go (infinities t) r p q = absurd (let z : _≡_ {A = ℕ} 0 1 = cc in omega arith)
     go (numbers t m e w c) r p q =
         let a : w ≡ u = cc in
-        record { digits = m; place = e; number = record { read-as = r ∙ ap (λ b. fin b m e) p; kind-is = h; sign-is = refl; counts = c ∙ ap (λ b. b * down e) a } }
+        record { significand = m; exponent = e; number = record { read-as = r ∙ ap (λ b. fin b m e) p; kind-is = h; sign-is = refl; counts = c ∙ ap (λ b. b * down e) a } }
 
 -- ---- writing
 module _ (k : Theirs) where

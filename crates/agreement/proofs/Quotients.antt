@@ -15,7 +15,7 @@ use Rattle.ieee.specs.Pattern.{minus, signed, unlike, finite, kind}
 use Rattle.ieee.specs.Exact.{ratio}
 use Rattle.ieee.specs.Round.{even, rounded}
 use Rattle.agreement.specs.Toolchain.{ours, on}
-use Rattle.agreement.proofs.Patterns.{parted}
+use Rattle.agreement.proofs.Patterns.{unpacked}
 use Rattle.agreement.proofs.Rounding.{round-as}
 use Rattle.agreement.proofs.Products.{not-zero-of}
 
@@ -42,11 +42,11 @@ module _ (k : Theirs) where
   div-same x y u v p q =
       let s = minus (ours k) x in
       let t = minus (ours k) y in
-      let nx = parted k x u p in
-      let ny = parted k y (suc v) q in
-      let m = nx .digits in
-      let n = ny .digits in
-      let e = nx .place in
-      let d = ny .place in
+      let nx = unpacked k x u p in
+      let ny = unpacked k y (suc v) q in
+      let m = nx .significand in
+      let n = ny .significand in
+      let e = nx .exponent in
+      let d = ny .exponent in
       (λ i. toBits k (div k (nx .number .read-as i) (ny .number .read-as i)))
       ∙ ap (toBits k) (number-div s t m n e d) ∙ number-over s t m n e d u v (nx .number .counts) (ny .number .counts)

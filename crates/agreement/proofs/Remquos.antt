@@ -1,9 +1,9 @@
 -- Our remquo, from the toolchain's parts: x less so many y, as many as the nearest whole number to x / y says. Assumes nothing.
-use Prim.Native.Nat.{ℕ, zero, suc, _+_, _-_, _*_, _/_, _%_, _^_, _≤_, _<_, compare, Ordering, Ordering·lt, Ordering·eq, Ordering·gt}
+use Prim.Native.Nat.{ℕ, zero, suc, _+_, _-_, _*_, _/_, _%_, _^_, _<_, compare, Ordering, Ordering·lt, Ordering·eq, Ordering·gt}
 use mathlib.Core.Path.{_≡_, refl, sym, ap, _∙_}
-use mathlib.Core.Bool.{Bool, not, _&&_, _||_, cond}
+use mathlib.Core.Bool.{Bool, true, false, not, _&&_, _||_, cond}
 use native.Mathlib.Nat.{mul-pos}
-use native.Mathlib.Omega.{arith}
+use native.Mathlib.Omega.{arith, both-ways}
 use borrow.Author.Tests.{lt-ltb, le-ltb, eq-eqb, ne-eqb}
 use lib.Dec.{ltb, eqb}
 use lib.IntN.{ℤ, pos}
@@ -11,7 +11,7 @@ use lib.Pow.{pow-pos}
 use lib.Ieee.{fin, Format as Theirs, up, down, nearest, add, sum, ofBits, toBits}
 use lib.Ieee.Fits.{down-pos}
 use lib.Ieee.Nearest.{closest, closest-same}
-use Rattle.algebra.proofs.Products.{order, times, times-le, diff, mul-lt-cancel, mul-le-cancel, mul-eq-cancel}
+use Rattle.algebra.proofs.Products.{order, times, mul-eq-cancel}
 use Rattle.ieee.specs.Format.{low}
 use Rattle.ieee.specs.Pattern.{Pattern, signed, unlike, finite, kind, withSign}
 use Rattle.ieee.specs.Exact.{ratio}
@@ -25,9 +25,8 @@ use Rattle.ieee.proofs.Remquos.{quotient-finite}
 use Rattle.agreement.specs.Toolchain.{ours, on, nearestTo, divides, nearestLeft, remainder}
 use Rattle.agreement.proofs.Choice.{Cmp, cmp}
 use Rattle.agreement.proofs.Patterns.{write, Counted, counted}
-use Rattle.agreement.proofs.Rounding.{round-as}
 use Rattle.agreement.proofs.Products.{zero-of}
-use Rattle.agreement.proofs.Sums.{their-less, their-more}
+use Rattle.agreement.proofs.Sums.{unlike-less, unlike-more}
 use Rattle.agreement.proofs.Remainders.{divided-same}
 
 -- ---- the toolchain's nearest whole number is ours
@@ -44,22 +43,15 @@ closest-is u v = whole-by (u / v) (u % v) v (compare (u % v * 2) v) (cmp (u % v 
 
 -- ---- u less q units, with the sign s, from a / c less b / c
 module _ (k : Theirs) (s : Bool) (a b c u q : ℕ) (C : 0 < c) (A : a * 2 ^ low (ours k) ≡ u * c) (B : b * 2 ^ low (ours k) ≡ q * c) where
-  lower : a < b → toBits k (sum k s a (not s) b c) ≡ rest (ours k) s u q
-  lower h =
-      let l : a ≤ b = omega arith in
-      let g : u < q = mul-lt-cancel u q c (omega (arith, A, B, pow-pos (low (ours k)), times-le (2 ^ low (ours k)) h)) in
-      let l′ : u ≤ q = omega arith in
-      ap (toBits k) (their-less k s a b c h)
-      ∙ round-as k (not s) (b - a) c (q - u) 1 C (omega arith) (omega (arith, A, B, diff (2 ^ low (ours k)) l, diff c l′))
-      ∙ ap (λ t. cond t (signed (ours k) (not s) (exactly (ours k) (q - u))) (signed (ours k) s (exactly (ours k) (u - q)))) (sym (lt-ltb u q g))
+  A-one : a * 2 ^ low (ours k) * 1 ≡ u * c
+  A-one = omega (arith, A)
 
-  higher : b < a → toBits k (sum k s a (not s) b c) ≡ rest (ours k) s u q
-  higher h =
-      let l : b ≤ a = omega arith in
-      let g : q ≤ u = mul-le-cancel q u c C (omega (arith, A, B, times-le (2 ^ low (ours k)) l)) in
-      ap (toBits k) (their-more k s a b c h)
-      ∙ round-as k s (a - b) c (u - q) 1 C (omega arith) (omega (arith, A, B, diff (2 ^ low (ours k)) l, diff c g))
-      ∙ ap (λ t. cond t (signed (ours k) (not s) (exactly (ours k) (q - u))) (signed (ours k) s (exactly (ours k) (u - q)))) (sym (le-ltb u q g))
+  B-one : b * 2 ^ low (ours k) * 1 ≡ q * c
+  B-one = omega (arith, B)
+
+  -- by which is the greater
+  chosen : (t : Bool) → ltb u q ≡ t → cond t (signed (ours k) (not s) (exactly (ours k) (q - u))) (signed (ours k) s (exactly (ours k) (u - q))) ≡ rest (ours k) s u q
+  chosen t e = ap (λ b. cond b (signed (ours k) (not s) (exactly (ours k) (q - u))) (signed (ours k) s (exactly (ours k) (u - q)))) (sym e)
 
   -- nothing is left: a zero with the sign of x, where their sum would be +0
   none : a ≡ b → toBits k (fin s 0 (pos 0)) ≡ rest (ours k) s u q
@@ -70,14 +62,22 @@ module _ (k : Theirs) (s : Bool) (a b c u q : ℕ) (C : 0 < c) (A : a * 2 ^ low 
       write k (fin s 0 (pos 0)) s 0 (refl, omega (arith, units-zero f))
       ∙ ap (signed f s) (sym (rounded-zero f even (ratio 0 1) (omega arith) (omega arith)))
       ∙ ap (λ j. signed f s (exactly f j)) (sym o)
-      ∙ ap (λ t. cond t (signed f (not s) (exactly f (q - u))) (signed f s (exactly f (u - q)))) (sym (le-ltb u q (omega arith)))
+      ∙ chosen false (le-ltb u q (omega arith))
+
+  level : u ≡ q → a ≡ b
+  level e = mul-eq-cancel a b (2 ^ low (ours k)) (pow-pos (low (ours k))) (omega (arith, A, B, times c e))
 
   rest-same : toBits k (cond (eqb a b) (fin s 0 (pos 0)) (sum k s a (not s) b c)) ≡ rest (ours k) s u q
   rest-same = go (eqb-reads a b)
     where
       go : {t : Bool} → Reads (a ≡ b) t → toBits k (cond t (fin s 0 (pos 0)) (sum k s a (not s) b c)) ≡ rest (ours k) s u q
       go (so e) = none e
-      go (not-so n) = order (suc a) b lower (λ h. order (suc b) a higher (λ g. absurd (n (omega arith))))
+      go (not-so n) =
+          order (suc u) q
+          (λ h. unlike-less k s a b c u q 1 C (omega arith) A-one B-one h ∙ chosen true (lt-ltb u q h))
+          (λ h. order (suc q) u
+          (λ g. unlike-more k s a b c u q 1 C (omega arith) A-one B-one g ∙ chosen false (le-ltb u q (omega arith)))
+          (λ g. absurd (n (level (both-ways u q (omega arith) (omega arith))))))
 
 -- ---- two numbers, y not zero
 module _ (k : Theirs) (m : ℕ) (e : ℤ) (n : ℕ) (d : ℤ) (u v : ℕ) (p : m * up e * 2 ^ low (ours k) ≡ u * down e) (q : n * up d * 2 ^ low (ours k) ≡ suc v * down d) where

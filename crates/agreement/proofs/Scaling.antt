@@ -33,11 +33,11 @@ scaled-same k s m e u (negsuc n) h =
     ∙ sym (answer-of (ours k) ties-to-even s s u (suc n) (sign-own s u (suc n)))
 
 module _ (k : Theirs) (x : ℕ) (n : ℤ) (p : Pattern (ours k) x) where
-  rows : {v : Float} {s : Bool} {a : Kind} → Same (low (ours k)) v s a → s ≡ minus (ours k) x → kind (ours k) x ≡ a → toBits k (mul k v (power n)) ≡ scalbnBy (ours k) ties-to-even x n a
+  scaled-rows : {v : Float} {s : Bool} {a : Kind} → Same (low (ours k)) v s a → s ≡ minus (ours k) x → kind (ours k) x ≡ a → toBits k (mul k v (power n)) ≡ scalbnBy (ours k) ties-to-even x n a
   unfolding mul scalbnBy
-  rows (nans s) r e = write-nan k
-  rows (infinities s) r e = write-infinite k (unlike s false) ∙ ap (λ b. signed (ours k) b (inf (ours k))) (unlike-plus s ∙ r) ∙ infinity-is (ours k) x p e
-  rows (numbers s m y u h) r e =
+  scaled-rows (nans s) r e = write-nan k
+  scaled-rows (infinities s) r e = write-infinite k (unlike s false) ∙ ap (λ b. signed (ours k) b (inf (ours k))) (unlike-plus s ∙ r) ∙ infinity-is (ours k) x p e
+  scaled-rows (numbers s m y u h) r e =
       let f = ours k in
       let b = finite-is f x u e in
       ap (λ c. toBits k (round k c (m * up y * (1 * up n)) (down y * down n))) (unlike-plus s ∙ r)
@@ -46,4 +46,4 @@ module _ (k : Theirs) (x : ℕ) (n : ℤ) (p : Pattern (ours k) x) where
 
   pub scalbn-same : toBits k (mul k (ofBits k x) (power n)) ≡ scalbnOf (ours k) x n
   unfolding scalbnOf scalbnIn
-  scalbn-same = rows (pattern-same k x) refl refl
+  scalbn-same = scaled-rows (pattern-same k x) refl refl

@@ -47,8 +47,8 @@ down-same true a b P u s p h =
 
 module _ (k : Theirs) where
   -- ---- the attribute a sends m 2 ^ e to the whole number c
-  sent : (a : Attribute) (x : ℕ) (s : Bool) (c u : ℕ) → s ≡ minus (ours k) x → kind (ours k) x ≡ finite u → whole (wayOf a s) u (2 ^ low (ours k)) ≡ c → toBits k (round k s c 1) ≡ wholeIn (ours k) a x
-  sent a x s c u r e q =
+  sends : (a : Attribute) (x : ℕ) (s : Bool) (c u : ℕ) → s ≡ minus (ours k) x → kind (ours k) x ≡ finite u → whole (wayOf a s) u (2 ^ low (ours k)) ≡ c → toBits k (round k s c 1) ≡ wholeIn (ours k) a x
+  sends a x s c u r e q =
       let f = ours k in
       let P = 2 ^ low f in
       round-as k s c 1 (c * P) 1 (omega arith) (omega arith) (omega arith)
@@ -63,7 +63,7 @@ module _ (k : Theirs) where
   trunc-number : (x : ℕ) (s : Bool) (m : ℕ) (e : ℤ) (u : ℕ) → s ≡ minus (ours k) x → kind (ours k) x ≡ finite u → m * up e * 2 ^ low (ours k) ≡ u * down e
       → toBits k (round k s (part m e) 1) ≡ truncOf (ours k) x
   unfolding truncOf
-  trunc-number x s m e u r c h = sent toward-zero x s (part m e) u r c (sym (div-same (m * up e) (down e) u (2 ^ low (ours k)) (down-pos e) (pow-pos (low (ours k))) h))
+  trunc-number x s m e u r c h = sends toward-zero x s (part m e) u r c (sym (div-same (m * up e) (down e) u (2 ^ low (ours k)) (down-pos e) (pow-pos (low (ours k))) h))
 
   module _ (x : ℕ) (p : Pattern (ours k) x) (n : kind (ours k) x ≡ nan → ⊥) where
     trunc-rows : {v : Float} {s : Bool} {a : Kind} → Same (low (ours k)) v s a → s ≡ minus (ours k) x → kind (ours k) x ≡ a → toBits k (truncated k v) ≡ truncOf (ours k) x
@@ -77,7 +77,7 @@ module _ (k : Theirs) where
     floor-rows (nans s) r e = absurd (n e)
     floor-rows (infinities s) r e = infinity-same toward-negative x s p r e
     floor-rows (numbers s m d u h) r e =
-        sent toward-negative x s (part m d + cond (s && not (eqb (m * up d % down d) 0)) 1 0) u r e (down-same s (m * up d) (down d) (2 ^ low (ours k)) u (down-pos d) (pow-pos (low (ours k))) h)
+        sends toward-negative x s (part m d + cond (s && not (eqb (m * up d % down d) 0)) 1 0) u r e (down-same s (m * up d) (down d) (2 ^ low (ours k)) u (down-pos d) (pow-pos (low (ours k))) h)
 
     pub trunc-same : toBits k (truncated k (ofBits k x)) ≡ truncOf (ours k) x
     trunc-same = trunc-rows (pattern-same k x) refl refl

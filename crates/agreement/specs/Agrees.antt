@@ -58,7 +58,7 @@ pub record Operations (k : Theirs) : Type 0 where
   pub scalbn : (x : ℕ) (n : ℤ) → Pattern (ours k) x → toBits k (mul k (ofBits k x) (power n)) ≡ scalbnOf (ours k) x n
 
 -- ---- operations that they lack, made of their parts; the rows of NaNs and infinities are ours, but for remquo's, which are their remainder's
-pub record Made (k : Theirs) : Type 0 where
+pub record Derived (k : Theirs) : Type 0 where
   -- all but NaNs, which trunc and floor give back
   pub trunc : (x : ℕ) → Pattern (ours k) x → (kind (ours k) x ≡ nan → ⊥) → toBits k (truncated k (ofBits k x)) ≡ truncOf (ours k) x
   pub floor : (x : ℕ) → Pattern (ours k) x → (kind (ours k) x ≡ nan → ⊥) → toBits k (floored k (ofBits k x)) ≡ floorOf (ours k) x
@@ -80,4 +80,4 @@ pub record Agrees (k : Theirs) : Type 0 where
   pub patterns : Patterns k
   pub rounding : Rounding k
   pub operations : Operations k
-  pub made : Made k
+  pub derived : Derived k
