@@ -13,11 +13,11 @@ use Rattle.ieee.specs.Pattern.{minus, magnitude, unlike, withSign, value}
 use Rattle.ieee.specs.Exact.{dyadic}
 use Rattle.ieee.specs.Round.{ties-to-even, answer}
 use Rattle.ieee.specs.Scalbn.{scaled}
-use Rattle.ieee.specs.Fma.{fmaOf, zeroSign}
+use Rattle.ieee.specs.Fma.{fmaOf, zeroSign, productSign, against}
 use Rattle.ieee.proofs.Units.{units-zero, units-lt}
 use Rattle.ieee.proofs.Patterns.{value-is, kind-finite}
 use Rattle.ieee.proofs.Signs.{signed-times, signed-product, signed-zero}
-use Rattle.ieee.proofs.Fmas.{fma-answer, fma-rows, productSign, against}
+use Rattle.ieee.proofs.Fmas.{fma-answer, fma-rows}
 use Rattle.rounding.proofs.Scaled.{scaled-moves}
 use Rattle.significands.specs.Significand.{sigOf}
 use Rattle.significands.proofs.Significands.{Normal, normal-is}

@@ -12,7 +12,7 @@ use Rattle.ieee.specs.Pattern.{Pattern, minus, magnitude, signed, unlike
 use Rattle.ieee.specs.Exact.{dyadic}
 use Rattle.ieee.specs.Round.{Attribute, ties-to-even, ties-to-away, toward-zero, toward-positive, toward-negative, answer}
 use Rattle.ieee.specs.Rule.{to-even, Once, RuleIn}
-use Rattle.ieee.specs.Fma.{times, sumOf, zeroSum, plusBy, fmaIn, fmaOf, exactFma, zeroSign}
+use Rattle.ieee.specs.Fma.{times, sumOf, zeroSum, plusBy, fmaIn, fmaOf, exactFma, zeroSign, InfiniteProduct, of-both, of-first, of-second, productSign, against}
 use Rattle.ieee.proofs.Patterns.{value-finite, finite-is, infinity-is, signed-is}
 use Rattle.ieee.proofs.Signs.{signed-times, signed-product, signed-zero}
 use Rattle.ieee.proofs.Exacts.{answer-zero, sign-given, answer-held}
@@ -31,7 +31,7 @@ module _ (f : Format) where
       let g = signed-times (minus f z) w (2 ^ low f) in
       sym ((λ i. value-finite f x u p i *ℤ value-finite f y v q i +ℤ value-finite f z w r i *ℤ pos (2 ^ low f)) ∙ (λ i. e i +ℤ g i))
 
-  sum-exact : (x y z u v w : ℕ) → kind f x ≡ finite u → kind f y ≡ finite v → kind f z ≡ finite w
+  pub sum-exact : (x y z u v w : ℕ) → kind f x ≡ finite u → kind f y ≡ finite v → kind f z ≡ finite w
       → sumOf f (unlike (minus f x) (minus f y)) (u * v) (minus f z) w ≡ exactFma f x y z
   sum-exact x y z u v w p q r = ap (λ n. dyadic n (low f)) (numerator x y z u v w p q r)
 
@@ -115,23 +115,10 @@ module _ (f : Format) where
   unfolding fmaIn
   by-product a x y z e h = λ i. plusBy f a (unlike (minus f x) (minus f y)) (e i) (minus f z) (h i)
 
--- the product is infinite: an infinity times an infinity, or times a number that is not zero
-pub data InfiniteProduct (f : Format) (x y : ℕ) : Type 0 where
-  of-both : kind f x ≡ infinite → kind f y ≡ infinite → InfiniteProduct f x y
-  of-first : {v : ℕ} → kind f x ≡ infinite → kind f y ≡ finite (suc v) → InfiniteProduct f x y
-  of-second : {u : ℕ} → kind f x ≡ finite (suc u) → kind f y ≡ infinite → InfiniteProduct f x y
-
-times-infinite : (f : Format) (x y : ℕ) → InfiniteProduct f x y → times (kind f x) (kind f y) ≡ infinite
+pub times-infinite : (f : Format) (x y : ℕ) → InfiniteProduct f x y → times (kind f x) (kind f y) ≡ infinite
 times-infinite f x y (of-both h l) = λ i. times (h i) (l i)
 times-infinite f x y (of-first h l) = λ i. times (h i) (l i)
 times-infinite f x y (of-second h l) = λ i. times (h i) (l i)
-
--- the sign of a product, and whether z has another
-abbrev pub productSign : Format → ℕ → ℕ → Bool
-productSign f x y = unlike (minus f x) (minus f y)
-
-abbrev pub against : Format → ℕ → ℕ → ℕ → Bool
-against f x y z = unlike (productSign f x y) (minus f z)
 
 -- rounding toward negative
 abbrev pub Down : Attribute → Type 0

@@ -1,8 +1,8 @@
 -- The formats are fair, and the numbers are what they should be. Assumes nothing.
 use mathlib.Core.Path.{refl}
 use lib.Dec.{lit≤, lit<}
-use Rattle.ieee.specs.Format.{Fair, b32, b64, units}
-use Rattle.ieee.specs.Numbers.{Numbers64, Numbers32, Statuses, Limits}
+use Rattle.ieee.specs.Format.{Fair, b16, b32, b64, units}
+use Rattle.ieee.specs.Numbers.{Numbers64, Numbers32, Statuses, FlagNumbers, Limits}
 
 pub fair64 : Fair b64
 fair64 = record { frac-pos = lit≤ tt; expo-two = lit≤ tt; frac-fits = lit< tt }
@@ -10,8 +10,7 @@ fair64 = record { frac-pos = lit≤ tt; expo-two = lit≤ tt; frac-fits = lit< t
 pub fair32 : Fair b32
 fair32 = record { frac-pos = lit≤ tt; expo-two = lit≤ tt; frac-fits = lit< tt }
 
--- nothing here stops binary16
-pub fair16 : Fair (record { frac = 10; expo = 5 })
+pub fair16 : Fair b16
 fair16 = record { frac-pos = lit≤ tt; expo-two = lit≤ tt; frac-fits = lit< tt }
 
 pub numbers64 : Numbers64
@@ -24,6 +23,9 @@ numbers32 = record { fraction = refl; offset = refl; smallest = (refl, refl, ref
 
 pub statuses : Statuses
 statuses = record { ok = refl; invalid = refl; inexact = refl }
+
+pub flag-numbers : FlagNumbers
+flag-numbers = record { nothing = refl; invalid = refl; division-by-zero = refl; overflow = refl; underflow = refl; inexact = refl }
 
 pub limits : Limits
 limits = record { places = refl; divisor64 = refl; divisor32 = refl; shift = refl }

@@ -1,24 +1,32 @@
 -- Lazy answers, each at an input where the definitions say otherwise. Assumes nothing.
 use Prim.Native.Nat.{ℕ}
 use mathlib.Core.Path.{_≡_, refl, ap}
+use mathlib.Core.Bool.{true}
 use mathlib.Core.List.{[], _∷_}
 use native.Mathlib.Omega.{arith}
-use lib.IntN.{pos, natAbs}
+use lib.IntN.{pos, negsuc, natAbs}
 use lib.ListN.{getD}
 use Rattle.ieee.specs.Format.{b64, canonical}
-use Rattle.ieee.specs.Sqrt.{sqrtOf}
-use Rattle.ieee.specs.Fma.{fmaOf}
-use Rattle.ieee.specs.Scalbn.{scalbnOf}
-use Rattle.ieee.specs.Whole.{floorOf, truncOf}
+use Rattle.ieee.specs.Flags.{none, only-inexact, wordOf}
+use Rattle.ieee.specs.Sqrt.{sqrtOf, sqrtFlags}
+use Rattle.ieee.specs.Fma.{fmaOf, fmaFlags}
+use Rattle.ieee.specs.Scalbn.{scalbnOf, scalbnFlags}
+use Rattle.ieee.specs.Whole.{floorOf, truncOf, floorFlags, truncFlags}
 use Rattle.ieee.specs.Fmod.{fmodOf}
 use Rattle.ieee.specs.Remquo.{remquoOf, quotientOf}
 use Rattle.ieee.specs.Refusal.{numberOf}
 use Rattle.ieee.specs.Reduction.{reduceOf}
 use Rattle.ieee.specs.Lists.{listOf}
 
--- the patterns of 1 and 4
+-- the patterns of 1/2, 1, 2 and 4
+abbrev half : ℕ
+half = 0x3fe0000000000000
+
 abbrev one : ℕ
 one = 0x3ff0000000000000
+
+abbrev two : ℕ
+two = 0x4000000000000000
 
 abbrev four : ℕ
 four = 0x4010000000000000
@@ -40,9 +48,20 @@ pub record Lazy : Type 0 where
   -- the output untouched, and the first place alone filled
   pub list-untouched : listOf b64 1 (four ∷ []) (0 ∷ []) .output ≡ 0 ∷ [] → ⊥
   pub list-first-alone : (r : ℕ) → listOf b64 1 (four ∷ four ∷ []) (0 ∷ 0 ∷ []) .output ≡ r ∷ 0 ∷ [] → ⊥
+  -- no flag ever, and always inexact
+  pub sqrt-no-flag : sqrtFlags b64 two ≡ none → ⊥
+  pub fma-no-flag : fmaFlags b64 one one 1 ≡ none → ⊥
+  pub scalbn-no-flag : scalbnFlags b64 1 (negsuc 0) ≡ none → ⊥
+  pub floor-no-flag : floorFlags b64 half ≡ none → ⊥
+  pub trunc-no-flag : truncFlags b64 half ≡ none → ⊥
+  pub sqrt-always-inexact : sqrtFlags b64 four ≡ only-inexact true → ⊥
+  pub fma-always-inexact : fmaFlags b64 one one one ≡ only-inexact true → ⊥
+  pub scalbn-always-inexact : scalbnFlags b64 one (pos 0) ≡ only-inexact true → ⊥
+  pub floor-always-inexact : floorFlags b64 one ≡ only-inexact true → ⊥
+  pub trunc-always-inexact : truncFlags b64 one ≡ only-inexact true → ⊥
 
 pub lazy : Lazy
-unfolding sqrtOf fmaOf fmodOf remquoOf quotientOf scalbnOf floorOf truncOf listOf reduceOf
+unfolding sqrtOf fmaOf fmodOf remquoOf quotientOf scalbnOf floorOf truncOf listOf reduceOf sqrtFlags fmaFlags scalbnFlags floorFlags truncFlags
 lazy =
     record {
       sqrt-nan = λ e. omega (arith, e);
@@ -57,4 +76,14 @@ lazy =
       reduction-refused = λ n. n refl;
       list-untouched = λ e. let z = ap (λ l. getD l 0 0) e in omega (arith, z);
       list-first-alone = λ r e. let z = ap (λ l. getD l 1 0) e in omega (arith, z);
+      sqrt-no-flag = λ e. let z = ap wordOf e in omega (arith, z);
+      fma-no-flag = λ e. let z = ap wordOf e in omega (arith, z);
+      scalbn-no-flag = λ e. let z = ap wordOf e in omega (arith, z);
+      floor-no-flag = λ e. let z = ap wordOf e in omega (arith, z);
+      trunc-no-flag = λ e. let z = ap wordOf e in omega (arith, z);
+      sqrt-always-inexact = λ e. let z = ap wordOf e in omega (arith, z);
+      fma-always-inexact = λ e. let z = ap wordOf e in omega (arith, z);
+      scalbn-always-inexact = λ e. let z = ap wordOf e in omega (arith, z);
+      floor-always-inexact = λ e. let z = ap wordOf e in omega (arith, z);
+      trunc-always-inexact = λ e. let z = ap wordOf e in omega (arith, z);
     }

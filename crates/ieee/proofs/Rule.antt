@@ -32,7 +32,7 @@ inf-pos f g =
     let e = pow-mono {i = 1} {j = f .expo} (omega (arith, g .expo-two)) in
     mul-le-mul {n₁ = 1} {m₁ = 1} {n₂ = 2 ^ f .expo - 1} {m₂ = 2 ^ f .frac} (omega arith) (pow-pos (f .frac))
 
-inf-even : (f : Format) → Fair f → inf f % 2 ≡ 0
+pub inf-even : (f : Format) → Fair f → inf f % 2 ≡ 0
 inf-even f g = go (2 ^ f .expo - 1) (2 ^ f .frac) (2 ^ (f .frac - 1)) (pow-diff {a = f .frac} {b = 1} (g .frac-pos))
   where
     go : (a b c : ℕ) → c * 2 ≡ b → a * b % 2 ≡ 0

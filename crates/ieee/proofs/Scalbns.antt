@@ -53,10 +53,10 @@ module _ (f : Format) (g : Fair f) where
   reach-past : units f (inf f) < 2 ^ reach f
   reach-past = subst (λ u. u < 2 ^ reach f) (sym (units-inf f g)) (pow-lt (omega (arith, pow-mono (g .expo-two))))
 
-  past-all : (u n : ℕ) → 0 < u → reach f ≤ n → units f (inf f) < u * 2 ^ n
+  pub past-all : (u n : ℕ) → 0 < u → reach f ≤ n → units f (inf f) < u * 2 ^ n
   past-all u n l h = omega (arith, reach-past, pow-mono h, times-le (2 ^ n) l)
 
-  below-all : (u n : ℕ) → u < units f (inf f) → reach f ≤ n → 2 * u < 2 ^ suc n
+  pub below-all : (u n : ℕ) → u < units f (inf f) → reach f ≤ n → 2 * u < 2 ^ suc n
   below-all u n l h = omega (arith, reach-past, pow-mono h, two-pow-succ n)
 
   up-alike : (w : Way) (u n : ℕ) → rounded f w (ratio (u * 2 ^ min n (reach f)) 1) ≡ rounded f w (ratio (u * 2 ^ n) 1)
@@ -85,7 +85,7 @@ module _ (f : Format) (g : Fair f) where
       ∙ ap (signed f s) (down-alike (wayOf a s) u n l)
       ∙ sym (answer-of f a s s u (suc n) (sign-own s u (suc n)))
 
-  scaled-exact : (x u : ℕ) (n : ℤ) → kind f x ≡ finite u → scaled (minus f x) u n ≡ exactScalbn f x n
+  pub scaled-exact : (x u : ℕ) (n : ℤ) → kind f x ≡ finite u → scaled (minus f x) u n ≡ exactScalbn f x n
   scaled-exact x u (pos n) h = ap (λ c. dyadic c 0) (sym (signed-times (minus f x) u (2 ^ n)) ∙ ap (λ c. c *ℤ pos (2 ^ n)) (sym (value-finite f x u h)))
   scaled-exact x u (negsuc n) h = ap (λ c. dyadic c (suc n)) (sym (value-finite f x u h))
 

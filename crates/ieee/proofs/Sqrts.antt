@@ -25,7 +25,7 @@ module _ (f : Format) where
   unfolding sqrtStatus
   status-by x e h = λ i. sqrtStatusBy (e i) (h i)
 
-  root-exact : (x u : ℕ) → kind f x ≡ finite u → rootOf f u ≡ exactSqrt f x
+  pub root-exact : (x u : ℕ) → kind f x ≡ finite u → rootOf f u ≡ exactSqrt f x
   root-exact x u h = ap (λ n. surd (n * 2 ^ low f)) (sym (ap natAbs (value-finite f x u h) ∙ abs-signed (minus f x) u))
 
   sqrt-root : (a : Attribute) (x u : ℕ) → kind f x ≡ finite u → (minus f x ≡ true → u ≡ 0) → sqrtIn f a x ≡ answer f a (minus f x) (rootOf f u)

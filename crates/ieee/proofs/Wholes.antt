@@ -72,7 +72,7 @@ trunc-only f x r q a b =
     same-pattern f r q (a .pattern) (b .pattern) (a .sign ∙ sym (b .sign)) u
 
 -- ---- floor: signed numbers, by their magnitudes
-timesZ : (a : ℤ) (d : ℕ) → (up (a *ℤ pos d) ≡ up a * d) × (dn (a *ℤ pos d) ≡ dn a * d)
+pub timesZ : (a : ℤ) (d : ℕ) → (up (a *ℤ pos d) ≡ up a * d) × (dn (a *ℤ pos d) ≡ dn a * d)
 timesZ (pos n) d = (refl, omega arith)
 timesZ (negsuc n) d = let (p, q) = negZ (pos (suc n * d)) in (p ∙ omega arith, q)
 

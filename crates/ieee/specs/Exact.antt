@@ -43,3 +43,8 @@ over (root n) s = leb (s * s) (4 * n)
 abbrev pub under : Exact → ℕ → Bool
 under (ratio n d) s = leb (2 * n) (s * d)
 under (root n) s = leb (4 * n) (s * s)
+
+-- an exact magnitude times p
+abbrev pub magnified : Exact → ℕ → Exact
+magnified (ratio n d) p = ratio (n * p) d
+magnified (root n) p = root (n * (p * p))

@@ -6,6 +6,9 @@ pub record Format : Type 0 where
   pub frac : ℕ
   pub expo : ℕ
 
+abbrev pub b16 : Format
+b16 = record { frac = 10; expo = 5 }
+
 abbrev pub b32 : Format
 b32 = record { frac = 23; expo = 8 }
 

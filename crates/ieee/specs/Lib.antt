@@ -3,10 +3,15 @@ pub mod Pattern
 pub mod Exact
 pub mod Round
 pub mod Rule
+pub mod Flags
+pub mod FlagsRule
+pub mod Band
 pub mod Status
 pub mod Sqrt
 pub mod Fma
 pub mod Scalbn
+pub mod Rounded
+pub mod FlagRows
 pub mod Whole
 pub mod Fmod
 pub mod Remquo
@@ -15,3 +20,4 @@ pub mod Reduction
 pub mod Lists
 pub mod Numbers
 pub mod Cases
+pub mod FlagCases

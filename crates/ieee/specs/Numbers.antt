@@ -1,8 +1,10 @@
--- The numbers of binary64 and binary32, of the statuses and of the limits. Assumes nothing.
-use Prim.Native.Nat.{ℕ, _-_, _*_, _^_}
+-- The numbers of binary64 and binary32, of the statuses, of the flags and of the limits. Assumes nothing.
+use Prim.Native.Nat.{ℕ, _+_, _-_, _*_, _^_}
 use mathlib.Core.Path.{_≡_}
+use mathlib.Core.Bool.{true, false}
 use Rattle.ieee.specs.Format.{Format, b64, b32, bias, low, units, canonical}
 use Rattle.ieee.specs.Rule.{halfway}
+use Rattle.ieee.specs.Flags.{none, only-invalid, only-inexact, judged, wordOf}
 use Rattle.ieee.specs.Status.{OK, INVALID, INEXACT}
 use Rattle.ieee.specs.Reduction.{shiftLimit, divisorLimit}
 use Rattle.ieee.specs.Lists.{listLimit}
@@ -25,6 +27,15 @@ pub record Statuses : Type 0 where
   pub ok : OK ≡ 0
   pub invalid : INVALID ≡ 1
   pub inexact : INEXACT ≡ 32
+
+-- a number for each flag, and for flags together their sum
+pub record FlagNumbers : Type 0 where
+  pub nothing : wordOf none ≡ 0
+  pub invalid : wordOf only-invalid ≡ 1
+  pub division-by-zero : wordOf (record { invalid = false; division-by-zero = true; overflow = false; underflow = false; inexact = false }) ≡ 4
+  pub overflow : wordOf (judged true false true) ≡ 8 + 32
+  pub underflow : wordOf (judged false true true) ≡ 16 + 32
+  pub inexact : wordOf (only-inexact true) ≡ 32
 
 -- places of a list; the divisor and the shift of a reduction
 pub record Limits : Type 0 where

@@ -5,6 +5,7 @@ use lib.Dec.{leb, ltb, eqb}
 use Rattle.ieee.specs.Format.{Format, low}
 use Rattle.ieee.specs.Pattern.{Kind, nan, infinite, finite, kind, minus, signed}
 use Rattle.ieee.specs.Round.{Way, even, away, shorter, longer, Attribute, toward-zero, toward-negative, wayOf, rounded, exactly}
+use Rattle.ieee.specs.Flags.{Flags, none, only-inexact, nan-flags, signals}
 use Rattle.ieee.specs.Status.{OK, INEXACT}
 
 -- n / d as a whole number, the way w
@@ -44,3 +45,21 @@ truncStatus f x = wholeStatus f x (truncOf f x)
 unfoldable pub floorStatus : Format → ℕ → ℕ
 unfolding floorOf
 floorStatus f x = wholeStatus f x (floorOf f x)
+
+-- ---- the flags: invalid for a signalling NaN, and inexact exactly where a finite operand x is changed, to r
+unfoldable pub wholeFlagsBy : Format → ℕ → ℕ → Kind → Flags
+wholeFlagsBy f x r nan = nan-flags (signals f x)
+wholeFlagsBy f x r infinite = none
+wholeFlagsBy f x r (finite u) = only-inexact (not (eqb r x))
+
+unfoldable pub wholeFlagsIn : Format → Attribute → ℕ → Flags
+unfolding wholeFlagsBy wholeIn kind
+wholeFlagsIn f a x = wholeFlagsBy f x (wholeIn f a x) (kind f x)
+
+unfoldable pub truncFlags : Format → ℕ → Flags
+unfolding wholeFlagsIn
+truncFlags f x = wholeFlagsIn f toward-zero x
+
+unfoldable pub floorFlags : Format → ℕ → Flags
+unfolding wholeFlagsIn
+floorFlags f x = wholeFlagsIn f toward-negative x

@@ -2,43 +2,59 @@
 --
 -- A heading is a demand, in the words of README.md. A theorem is about a definition of crates/ieee/specs, over every fair format; the line "code" above it names the
 -- functions whose contracts are equations with that definition, at 64 and 32 bits.
-use Prim.Native.Nat.{ℕ, suc, _*_, _^_, _<_}
+use Prim.Native.Nat.{ℕ, suc, _+_, _-_, _*_, _^_, _<_}
 use mathlib.Core.Path.{_≡_}
 use mathlib.Core.Logic.{_↔_}
-use mathlib.Core.Bool.{Bool, true}
+use mathlib.Core.Bool.{Bool, true, false}
 use mathlib.Core.List.{List}
 use native.Mathlib.Omega.{arith}
-use lib.Dec.{eqb}
+use lib.Dec.{eqb, lit<}
 use lib.IntN.{ℤ}
 use lib.Ieee.{binary64, binary32}
-use Rattle.ieee.specs.Format.{Format, b64, b32, units, Fair}
+use Rattle.ieee.specs.Format.{Format, b64, b32, b16, inf, units, Fair}
 use Rattle.ieee.specs.Pattern.{minus, magnitude, finite, kind}
-use Rattle.ieee.specs.Round.{ties-to-even}
-use Rattle.ieee.specs.Rule.{to-even, Once}
-use Rattle.ieee.specs.Sqrt.{sqrtOf, sqrtStatus, exactSqrt}
-use Rattle.ieee.specs.Fma.{fmaOf, exactFma, zeroSign}
-use Rattle.ieee.specs.Scalbn.{scalbnOf, exactScalbn}
-use Rattle.ieee.specs.Whole.{truncOf, truncStatus, floorOf}
+use Rattle.ieee.specs.Exact.{Value, absolute}
+use Rattle.ieee.specs.Round.{Way, Attribute, ties-to-even, toward-positive, toward-negative, answer}
+use Rattle.ieee.specs.Rule.{Ties, to-even, tiesAttribute, Once, RuleIn}
+use Rattle.ieee.specs.Flags.{Flags, raised}
+use Rattle.ieee.specs.FlagsRule.{FlagsRule, Clean, Unbounded}
+use Rattle.ieee.specs.FlagRows.{SqrtFlagRows, FmaFlagRows, ScalbnFlagRows, WholeFlagRows}
+use Rattle.ieee.specs.Band.{Band}
+use Rattle.ieee.specs.Rounded.{sqrtRounded, fmaRounded, scalbnRounded, ByNumber}
+use Rattle.ieee.specs.Sqrt.{sqrtOf, sqrtStatus, sqrtIn, sqrtFlagsIn, exactSqrt}
+use Rattle.ieee.specs.Fma.{fmaOf, fmaIn, fmaFlagsIn, exactFma, zeroSign}
+use Rattle.ieee.specs.Scalbn.{scalbnOf, scalbnIn, scalbnFlagsIn, exactScalbn}
+use Rattle.ieee.specs.Whole.{truncOf, truncStatus, truncFlags, floorOf, floorFlags, wholeFlagsIn}
 use Rattle.ieee.specs.Fmod.{fmodOf}
 use Rattle.ieee.specs.Remquo.{remquoOf, quotientOf}
 use Rattle.ieee.specs.Refusal.{Refusal, given, Answer, numberOf, valueOf}
 use Rattle.ieee.specs.Reduction.{reduceOf}
 use Rattle.ieee.specs.Lists.{listLimit, Listed, listOf}
-use Rattle.ieee.specs.Numbers.{Numbers64, Numbers32, Statuses, Limits}
+use Rattle.ieee.specs.Numbers.{Numbers64, Numbers32, Statuses, FlagNumbers, Limits}
 use Rattle.ieee.specs.Cases.{Cases}
-use Rattle.ieee.proofs.Formats.{fair64, fair32, numbers64, numbers32, statuses, limits}
+use Rattle.ieee.specs.FlagCases.{FlagCases}
+use Rattle.ieee.proofs.Formats.{fair64, fair32, numbers64, numbers32, statuses, flag-numbers, limits}
 use Rattle.ieee.proofs.Patterns.{finite-is}
 use Rattle.ieee.proofs.Refusals.{First, None, Absent, given-first, given-none}
 use Rattle.ieee.proofs.Answers.{once-unique}
-use Rattle.ieee.proofs.Sqrts.{SqrtRows, sqrt-once, sqrt-rows}
-use Rattle.ieee.proofs.Fmas.{FmaRows, fma-once, fma-rows}
-use Rattle.ieee.proofs.Scalbns.{ScalbnRows, scalbn-once, scalbn-rows}
+use Rattle.ieee.proofs.Attributes.{answer-met-unique}
+use Rattle.ieee.proofs.Raised.{nearest-overflow, rule-one}
+use Rattle.ieee.proofs.Unbounded.{unbounded}
+use Rattle.ieee.proofs.Sqrts.{SqrtRows, sqrt-once, sqrt-met, sqrt-rows}
+use Rattle.ieee.proofs.SqrtFlags.{sqrt-flags-rule, sqrt-flag-rows, sqrt-clean, sqrt-no-overflow, sqrt-no-underflow, sqrt-band}
+use Rattle.ieee.proofs.Fmas.{FmaRows, fma-once, fma-met, fma-rows}
+use Rattle.ieee.proofs.FmaFlags.{fma-flags-rule, fma-flag-rows, fma-clean, fma-band}
+use Rattle.ieee.proofs.Scalbns.{ScalbnRows, scalbn-once, scalbn-met, scalbn-rows}
+use Rattle.ieee.proofs.ScalbnFlags.{scalbn-flags-rule, scalbn-flag-rows, scalbn-clean, scalbn-band}
+use Rattle.ieee.proofs.RoundedCalls.{sqrt-by-number, fma-by-number, scalbn-by-number}
 use Rattle.ieee.proofs.Wholes.{Truncated, Floored, WholeRows, FloorRows, trunc-is, trunc-only, trunc-rows, floor-is, floor-only, floor-rows}
+use Rattle.ieee.proofs.WholeFlags.{whole-clean, trunc-flag-rows, floor-flag-rows}
 use Rattle.ieee.proofs.Remainders.{Left, FmodRows, fmod-is, fmod-only, fmod-rows}
 use Rattle.ieee.proofs.Remquos.{NearestLeft, RemquoRows, remquo-is, remquo-only, remquo-rows}
 use Rattle.ieee.proofs.Reductions.{ReducedAs, reduction-is, reduction-only}
 use Rattle.ieee.proofs.ListCalls.{ListedAs, list-of-is, list-only}
 use Rattle.ieee.proofs.Cases.{cases}
+use Rattle.ieee.proofs.FlagCases.{flag-cases}
 use Rattle.ieee.proofs.Lazy.{Lazy, lazy}
 use Rattle.agreement.specs.Agrees.{Agrees}
 use Rattle.agreement.proofs.Agreement.{agrees}
@@ -51,6 +67,10 @@ use Rattle.table_root.proofs.Wholes.{alike}
 -- r meets a rule, and nothing else does
 abbrev pub Only : (ℕ → Type 0) → ℕ → Type 0
 Only P r = P r × ((q : ℕ) → P q → q ≡ r)
+
+-- flags meet a rule, and no others do
+abbrev pub OnlyFlags : (Flags → Type 0) → Flags → Type 0
+OnlyFlags P F = P F × ((G : Flags) → P G → G ≡ F)
 
 -- ======== What is spoken of
 -- both widths are fair formats, so that each theorem below holds at both
@@ -152,6 +172,103 @@ scalbn-rounds-once f g x u n h =
     let o = scalbn-once f g x u n h in
     (o, λ q a. once-unique f g to-even (minus f x) (exactScalbn f x n) q (scalbnOf f x n) a o)
 
+-- ======== Under every attribute of IEEE 754: the exact value rounded once by the attribute's rule, with the five flags of clause 7. These are definitions: the functions give nearest even, and a status.
+-- the five attributes have numbers, and every other number is refused with 10, the value zero and no flag
+pub attributes-go-by-number : (f : Format) (x y z : ℕ) (n : ℤ)
+    → ByNumber (λ a. sqrtIn f a x) (λ a. sqrtFlagsIn f a x) (λ k. sqrtRounded f k x)
+    × ByNumber (λ a. fmaIn f a x y z) (λ a. fmaFlagsIn f a x y z) (λ k. fmaRounded f k x y z)
+    × ByNumber (λ a. scalbnIn f a x n) (λ a. scalbnFlagsIn f a x n) (λ k. scalbnRounded f k x n)
+attributes-go-by-number f x y z n = (sqrt-by-number f x, fma-by-number f x y z, scalbn-by-number f x n)
+
+pub flag-numbers-are-as-given : FlagNumbers
+flag-numbers-are-as-given = flag-numbers
+
+-- for finite operands whose answer is not a NaN: the rule of the attribute, which one pattern meets, and the rule of its flags, which one record of flags meets;
+-- inexact exactly when the answer is not the exact value, an infinity never being it
+pub sqrt-by-attribute : (f : Format) → Fair f → (a : Attribute) (x u : ℕ) → kind f x ≡ finite u → (minus f x ≡ true → u ≡ 0)
+    → Only (RuleIn f a (minus f x) (exactSqrt f x)) (sqrtIn f a x) × OnlyFlags (FlagsRule f a (minus f x) (exactSqrt f x) (sqrtIn f a x)) (sqrtFlagsIn f a x)
+sqrt-by-attribute f g a x u h z =
+    let s = minus f x in
+    let v = exactSqrt f x in
+    let r = sqrtIn f a x in
+    let m = sqrt-met f g a x u h z in
+    let e = sqrt-flags-rule f g a x u h z in
+    ((m, λ q b. answer-met-unique f g a s v q r b m), (e, λ F b. rule-one f a s v r F (sqrtFlagsIn f a x) b e))
+
+pub fma-by-attribute : (f : Format) → Fair f → (a : Attribute) (x y z u v w : ℕ) → kind f x ≡ finite u → kind f y ≡ finite v → kind f z ≡ finite w
+    → Only (RuleIn f a (zeroSign f a x y z) (exactFma f x y z)) (fmaIn f a x y z) × OnlyFlags (FlagsRule f a (zeroSign f a x y z) (exactFma f x y z) (fmaIn f a x y z)) (fmaFlagsIn f a x y z)
+fma-by-attribute f g a x y z u v w h k l =
+    let s = zeroSign f a x y z in
+    let t = exactFma f x y z in
+    let r = fmaIn f a x y z in
+    let m = fma-met f g a x y z u v w h k l in
+    let e = fma-flags-rule f g a x y z u v w h k l in
+    ((m, λ q b. answer-met-unique f g a s t q r b m), (e, λ F b. rule-one f a s t r F (fmaFlagsIn f a x y z) b e))
+
+pub scalbn-by-attribute : (f : Format) → Fair f → (a : Attribute) (x u : ℕ) (n : ℤ) → kind f x ≡ finite u
+    → Only (RuleIn f a (minus f x) (exactScalbn f x n)) (scalbnIn f a x n) × OnlyFlags (FlagsRule f a (minus f x) (exactScalbn f x n) (scalbnIn f a x n)) (scalbnFlagsIn f a x n)
+scalbn-by-attribute f g a x u n h =
+    let s = minus f x in
+    let v = exactScalbn f x n in
+    let r = scalbnIn f a x n in
+    let m = scalbn-met f g a x u n h in
+    let e = scalbn-flags-rule f g a x u n h in
+    ((m, λ q b. answer-met-unique f g a s v q r b m), (e, λ F b. rule-one f a s v r F (scalbnFlagsIn f a x n) b e))
+
+-- overflow and tininess are judged as though the exponent range were unbounded: every wider range gives one verdict, and for each value but zero one is wide enough
+pub range-is-unbounded : (f : Format) → Fair f → (w : Way) (v : Value) → Unbounded f w (absolute v)
+range-is-unbounded = unbounded
+
+-- to the nearest, even or away, overflow is raised exactly when the answer is an infinity
+pub nearest-overflows-to-infinity : (f : Format) → Fair f → (t : Ties) (s : Bool) (v : Value)
+    → (raised f (tiesAttribute t) s v .overflow ≡ true) ↔ (magnitude f (answer f (tiesAttribute t) s v) ≡ inf f)
+nearest-overflows-to-infinity = nearest-overflow
+
+-- NaNs, infinities and zeros, row by row: when invalid is raised, and that nothing else is
+pub sqrt-flags-by-rows : (f : Format) → Fair f → (a : Attribute) → SqrtFlagRows f a
+sqrt-flags-by-rows = sqrt-flag-rows
+
+pub fma-flags-by-rows : (f : Format) (a : Attribute) (x y z : ℕ) → FmaFlagRows f a x y z
+fma-flags-by-rows = fma-flag-rows
+
+pub scalbn-flags-by-rows : (f : Format) (a : Attribute) (x : ℕ) (n : ℤ) → ScalbnFlagRows f a x n
+scalbn-flags-by-rows = scalbn-flag-rows
+
+-- and floor and trunc, inexact exactly where a finite operand is changed
+pub floor-flags-by-rows : (f : Format) → Fair f → WholeFlagRows f (floorOf f) (floorFlags f)
+floor-flags-by-rows = floor-flag-rows
+
+pub trunc-flags-by-rows : (f : Format) → Fair f → WholeFlagRows f (truncOf f) (truncFlags f)
+trunc-flags-by-rows = trunc-flag-rows
+
+-- whatever the operands: overflow and underflow imply inexact, invalid stands alone, division by zero never
+pub flags-are-clean : (f : Format) → Fair f → (a : Attribute) (x y z : ℕ) (n : ℤ)
+    → Clean (sqrtFlagsIn f a x) × Clean (fmaFlagsIn f a x y z) × Clean (scalbnFlagsIn f a x n) × Clean (wholeFlagsIn f a x)
+flags-are-clean f g a x y z n = (sqrt-clean f g a x, fma-clean f g a x y z, scalbn-clean f g a x n, whole-clean f a x)
+
+-- a root never overflows; nor does it underflow, in a format with one exponent more below 1 than a fair one must have, as all of the standard's have
+pub sqrt-never-overflows : (f : Format) → Fair f → (a : Attribute) (x : ℕ) → sqrtFlagsIn f a x .overflow ≡ false
+sqrt-never-overflows = sqrt-no-overflow
+
+pub sqrt-never-underflows : (f : Format) → Fair f → (a : Attribute) (x : ℕ) → f .frac + 1 < 2 ^ (f .expo - 1) → sqrtFlagsIn f a x .underflow ≡ false
+sqrt-never-underflows = sqrt-no-underflow
+
+pub standard-formats-have-room : (b16 .frac + 1 < 2 ^ (b16 .expo - 1)) × (b32 .frac + 1 < 2 ^ (b32 .expo - 1)) × (b64 .frac + 1 < 2 ^ (b64 .expo - 1))
+standard-formats-have-room = (lit< tt, lit< tt, lit< tt)
+
+-- tolerance bands: down and up hold the exact value between them, none is tighter, and the two are one number exactly when nothing is inexact
+pub sqrt-has-a-band : (f : Format) → Fair f → (x u : ℕ) → kind f x ≡ finite u → (minus f x ≡ true → u ≡ 0)
+    → Band f (exactSqrt f x) (sqrtIn f toward-negative x) (sqrtIn f toward-positive x) (sqrtFlagsIn f toward-negative x) (sqrtFlagsIn f toward-positive x)
+sqrt-has-a-band = sqrt-band
+
+pub fma-has-a-band : (f : Format) → Fair f → (x y z u v w : ℕ) → kind f x ≡ finite u → kind f y ≡ finite v → kind f z ≡ finite w
+    → Band f (exactFma f x y z) (fmaIn f toward-negative x y z) (fmaIn f toward-positive x y z) (fmaFlagsIn f toward-negative x y z) (fmaFlagsIn f toward-positive x y z)
+fma-has-a-band = fma-band
+
+pub scalbn-has-a-band : (f : Format) → Fair f → (x u : ℕ) (n : ℤ) → kind f x ≡ finite u
+    → Band f (exactScalbn f x n) (scalbnIn f toward-negative x n) (scalbnIn f toward-positive x n) (scalbnFlagsIn f toward-negative x n) (scalbnFlagsIn f toward-positive x n)
+scalbn-has-a-band = scalbn-band
+
 -- ======== The two routes to the root, digit by digit and by libm's table, give the same.
 -- code: `root` (crates/roots); `wide` and `narrow` (crates/table_root)
 -- of a whole number n: t and e are the root rounded down and whether it is exact; q is a whole number next to the root, and rem its residual
@@ -173,7 +290,11 @@ routes-give-one-answer f x r s a b (p, i) (q, j) = (cc, cc)
 pub worked-cases-hold : Cases
 worked-cases-hold = cases
 
--- no lazy answer is the definition's: the canonical NaN to everything, a quotient always zero, all refused, the output untouched, the first place alone filled
+-- and those of the flags and the attributes, with two fair formats in which a root underflows
+pub flag-cases-hold : FlagCases
+flag-cases-hold = flag-cases
+
+-- no lazy answer is the definition's: the canonical NaN to everything, a quotient always zero, all refused, the output untouched, the first place alone filled, no flag ever, always inexact
 pub lazy-answers-differ : Lazy
 lazy-answers-differ = lazy
 

@@ -13,15 +13,15 @@ use Rattle.ieee.proofs.Sides.{Sound, over-down, apart}
 use Rattle.ieee.proofs.Units.{units-is, units-at, units-mono, units-lt}
 use Rattle.ieee.proofs.Alike.{Beside, Places, same-side}
 
-abbrev Multiple : ℕ → ℕ → Type 0
+abbrev pub Multiple : ℕ → ℕ → Type 0
 Multiple p n = (k : ℕ) × (n ≡ k * p)
 
 -- the magnitude of 2 ^ (frac + c)
-abbrev start : Format → ℕ → ℕ
+abbrev pub start : Format → ℕ → ℕ
 start f c = suc c * 2 ^ f .frac
 
 module _ (f : Format) (c : ℕ) where
-  start-units : units f (start f c) ≡ 2 ^ (f .frac + c)
+  pub start-units : units f (start f c) ≡ 2 ^ (f .frac + c)
   start-units = ap (units f) (omega arith) ∙ units-at f (suc c) 0 (pow-pos (f .frac)) ∙ omega (arith, pow-add 2 (f .frac) c)
 
   -- from there on, magnitudes are on the grid
@@ -39,10 +39,10 @@ module _ (f : Format) (c : ℕ) where
       (k, units-is f j ∙ e)
 
   -- so twice a magnitude is on the grid or below twice its start, and so is a sum of neighbours
-  twice-grid : (j : ℕ) {G : Type 0} → (Multiple (2 ^ c) (2 * units f j) → G) → (2 * units f j < 2 * units f (start f c) → G) → G
+  pub twice-grid : (j : ℕ) {G : Type 0} → (Multiple (2 ^ c) (2 * units f j) → G) → (2 * units f j < 2 * units f (start f c) → G) → G
   twice-grid j on off = order (start f c) j (λ l. on (let (k, e) = units-multiple j l in (2 * k, omega arith))) (λ l. off (omega (arith, units-lt f l)))
 
-  middle-grid : (j : ℕ) {G : Type 0} → (Multiple (2 ^ c) (middle f j) → G) → (middle f j < 2 * units f (start f c) → G) → G
+  pub middle-grid : (j : ℕ) {G : Type 0} → (Multiple (2 ^ c) (middle f j) → G) → (middle f j < 2 * units f (start f c) → G) → G
   middle-grid j on off =
       order (start f c) j
       (λ l. let (k, e) = units-multiple j l in let (i, d) = units-multiple (suc j) (omega arith) in on (k + i, omega arith))

@@ -11,11 +11,11 @@ use Rattle.algebra.proofs.Roots.{Root}
 use Rattle.algebra.proofs.Integers.{up, dn}
 use Rattle.ieee.specs.Format.{Format}
 use Rattle.ieee.specs.Pattern.{signed, withSign}
-use Rattle.ieee.specs.Exact.{dyadic, surd, ratio, root}
+use Rattle.ieee.specs.Exact.{dyadic, surd, ratio, root, magnified}
 use Rattle.ieee.specs.Round.{Attribute, wayOf, answer}
 use Rattle.ieee.specs.Scalbn.{scaled}
 use Rattle.ieee.proofs.Exacts.{answer-of, sign-given}
-use Rattle.rounding.specs.Mark.{Marks, Marked, magnified}
+use Rattle.rounding.specs.Mark.{Marks, Marked}
 use Rattle.rounding.proofs.Scaled.{answer-scaled}
 use Rattle.rounding.proofs.Sticky.{sticky}
 

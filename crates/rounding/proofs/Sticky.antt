@@ -8,12 +8,12 @@ use lib.IntN.{ℤ}
 use Rattle.algebra.proofs.Products.{order, times, times-le, mul-le-cancel, cross}
 use Rattle.algebra.proofs.Integers.{up, dn}
 use Rattle.ieee.specs.Format.{Format}
-use Rattle.ieee.specs.Exact.{Exact, ratio, root, Over, Under}
+use Rattle.ieee.specs.Exact.{Exact, ratio, root, Over, Under, magnified}
 use Rattle.ieee.specs.Round.{Way, rounded}
 use Rattle.ieee.proofs.Sides.{Sound, over-down, under-up, apart, over-not-under, under-not-over}
 use Rattle.ieee.proofs.Alike.{Beside}
 use Rattle.cuts.specs.Cut.{stretched}
-use Rattle.rounding.specs.Mark.{Marked, magnified}
+use Rattle.rounding.specs.Mark.{Marked}
 use Rattle.cuts.proofs.Stretched.{ratio-stretched}
 use Rattle.rounding.proofs.Grid.{alike-on-grid}
 
@@ -77,7 +77,7 @@ module _ (x : Exact) (p : Sound x) (s a b : ℕ) (m : Marked (magnified x (2 ^ b
       }
 
   -- and so on the grid of steps 2 ^ c, which are four steps of the mark or more
-  beside-grid : (c : ℕ) → a + 2 ≤ b + c → (k : ℕ) → Beside x (ratio (s * 2 ^ a) (2 ^ b)) (k * 2 ^ c)
+  pub beside-grid : (c : ℕ) → a + 2 ≤ b + c → (k : ℕ) → Beside x (ratio (s * 2 ^ a) (2 ^ b)) (k * 2 ^ c)
   beside-grid c l k =
       let e : ℕ = b + c - (a + 2) in
       let level : 2 ^ c * 2 ^ b ≡ 2 ^ (2 + (e + a)) = sym (pow-add 2 c b) ∙ ap (λ i. 2 ^ i) (omega arith) in

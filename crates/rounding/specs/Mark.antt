@@ -1,7 +1,7 @@
 -- The sticky mark: a count of steps that is exact where it is even, and where it is odd says only between which even counts the value lies. Assumes nothing.
 use Prim.Native.Nat.{ℕ, suc, _+_, _-_, _*_, _%_, _<_}
 use mathlib.Core.Path.{_≡_}
-use Rattle.ieee.specs.Exact.{Exact, ratio, root, Over, Under}
+use Rattle.ieee.specs.Exact.{Exact, Over, Under}
 
 -- s counts v in steps of n
 pub record Marks (v n s : ℕ) : Type 0 where
@@ -14,8 +14,3 @@ pub record Marked (x : Exact) (n s : ℕ) : Type 0 where
   pub exact : s % 2 ≡ 0 → Over x (2 * (s * n)) × Under x (2 * (s * n))
   pub more : s % 2 ≡ 1 → Under x (2 * ((s - 1) * n)) → ⊥
   pub less : s % 2 ≡ 1 → Over x (2 * (suc s * n)) → ⊥
-
--- x times d
-abbrev pub magnified : Exact → ℕ → Exact
-magnified (ratio p q) d = ratio (p * d) q
-magnified (root p) d = root (p * (d * d))

@@ -7,7 +7,7 @@ use borrow.Author.Needs.{needs}
 use Rattle.ieee.specs.Format.{Format, inf}
 use Rattle.ieee.specs.Pattern.{magnitude, signed, unlike}
 use Rattle.ieee.proofs.Patterns.{inf-below-top}
-use Rattle.ieee.proofs.Fmas.{InfiniteProduct, against, productSign}
+use Rattle.ieee.specs.Fma.{InfiniteProduct, against, productSign}
 use Rattle.fields.specs.Width.{format}
 use Rattle.patterns.proofs.Numbers.{infinity-some}
 use Rattle.rows.proofs.Rows.{zero-x, zero-y, infinite-product, opposite, decides}

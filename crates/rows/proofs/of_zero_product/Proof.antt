@@ -5,8 +5,7 @@ use native.Mathlib.Omega.{arith}
 use borrow.Author.Needs.{needs}
 use Rattle.ieee.specs.Format.{Format}
 use Rattle.ieee.specs.Pattern.{magnitude, unlike}
-use Rattle.ieee.specs.Fma.{fmaOf}
-use Rattle.ieee.proofs.Fmas.{against}
+use Rattle.ieee.specs.Fma.{fmaOf, against}
 use Rattle.fields.specs.Width.{format}
 use Rattle.rows.proofs.Rows.{unlike-zeros, leaves-z}
 use Rattle.rows.proofs.of_zero_product.Statement.{statement}

@@ -1,0 +1,108 @@
+-- The flags of scalbn: of the exact x times 2 ^ n rounded once, for every n, and every other row. Assumes nothing.
+use Prim.Native.Nat.{ℕ, zero, suc, _*_, _^_, _≤_, _<_, min}
+use mathlib.Core.Path.{_≡_, sym, ap, _∙_, subst₂}
+use mathlib.Core.Logic.{_↔_}
+use mathlib.Core.Bool.{Bool, true, false}
+use native.Mathlib.Omega.{arith}
+use lib.Pow.{pow-pos}
+use lib.IntN.{ℤ, pos, negsuc}
+use Rattle.algebra.proofs.Products.{order}
+use Rattle.ieee.specs.Format.{Format, Fair, inf, units}
+use Rattle.ieee.specs.Pattern.{minus, magnitude, Kind, nan, infinite, finite, kind}
+use Rattle.ieee.specs.Exact.{ratio}
+use Rattle.ieee.specs.Round.{Way, Attribute, ties-to-even, toward-positive, toward-negative, wayOf}
+use Rattle.ieee.specs.Rule.{to-even}
+use Rattle.ieee.specs.Flags.{none, nan-flags, signals, raisedBy, raised}
+use Rattle.ieee.specs.FlagsRule.{FlagsRule, Clean}
+use Rattle.ieee.specs.FlagRows.{ScalbnFlagRows}
+use Rattle.ieee.specs.Band.{Band}
+use Rattle.ieee.specs.Scalbn.{scaled, reach, clamp, scalbnIn, scalbnFlagsBy, scalbnFlagsIn, exactScalbn}
+use Rattle.ieee.proofs.Units.{units-lt}
+use Rattle.ieee.proofs.Patterns.{finite-is}
+use Rattle.ieee.proofs.Exacts.{sign-own}
+use Rattle.ieee.proofs.Scalbns.{past-all, below-all, scaled-exact, scalbn-answer}
+use Rattle.ieee.proofs.Bands.{band}
+use Rattle.ieee.proofs.Raised.{raised-rule, nearest-overflow, raised-of}
+use Rattle.ieee.proofs.Cleans.{none-clean, either-clean, raised-clean}
+use Rattle.ieee.proofs.FarFlags.{huge-flags, small-flags, zero-flags}
+
+module _ (f : Format) (g : Fair f) where
+  -- ---- far enough, up or down, all values raise alike
+  up-flags : (w : Way) (u n : ℕ) → raisedBy f w (ratio (u * 2 ^ min n (reach f)) 1) ≡ raisedBy f w (ratio (u * 2 ^ n) 1)
+  up-flags w zero n = ap (λ c. raisedBy f w (ratio c 1)) (omega arith)
+  up-flags w (suc u) n =
+      order n (reach f)
+      (λ h. let e : min n (reach f) ≡ n = omega arith in rw e)
+      (λ h. let e : min n (reach f) ≡ reach f = omega arith in
+      rw e (huge (reach f) (omega arith) ∙ sym (huge n (omega arith))))
+    where
+      huge : (n : ℕ) → reach f ≤ n → raisedBy f w (ratio (suc u * 2 ^ n) 1) ≡ record { invalid = false; division-by-zero = false; overflow = true; underflow = false; inexact = true }
+      huge n h = huge-flags f g w (ratio (suc u * 2 ^ n) 1) (omega arith) (omega (arith, past-all f g (suc u) n (omega arith) h))
+
+  down-flags : (w : Way) (u n : ℕ) → u < units f (inf f) → raisedBy f w (ratio u (2 ^ suc (min n (reach f)))) ≡ raisedBy f w (ratio u (2 ^ suc n))
+  down-flags w zero n l =
+      zero-flags f g w (ratio 0 (2 ^ suc (min n (reach f)))) (pow-pos (suc (min n (reach f)))) (omega arith)
+      ∙ sym (zero-flags f g w (ratio 0 (2 ^ suc n)) (pow-pos (suc n)) (omega arith))
+  down-flags w (suc u) n l =
+      order n (reach f)
+      (λ h. let e : min n (reach f) ≡ n = omega arith in rw e)
+      (λ h. let e : min n (reach f) ≡ reach f = omega arith in
+      rw e (small (reach f) (omega arith) ∙ sym (small n (omega arith))))
+    where
+      small : (n : ℕ) → reach f ≤ n → raisedBy f w (ratio (suc u) (2 ^ suc n)) ≡ record { invalid = false; division-by-zero = false; overflow = false; underflow = true; inexact = true }
+      small n h = small-flags f g w (ratio (suc u) (2 ^ suc n)) (pow-pos (suc n)) (λ z. omega arith) (omega (arith, below-all f g (suc u) n l h))
+
+  -- the clamped rule is the rule
+  pub clamp-flags : (a : Attribute) (s : Bool) (u : ℕ) (n : ℤ) → u < units f (inf f) → raised f a s (scaled s u (clamp (reach f) n)) ≡ raised f a s (scaled s u n)
+  clamp-flags a s u (pos n) l =
+      raised-of f a s s (u * 2 ^ min n (reach f)) 0 (sign-own s (u * 2 ^ min n (reach f)) 0)
+      ∙ up-flags (wayOf a s) u n
+      ∙ sym (raised-of f a s s (u * 2 ^ n) 0 (sign-own s (u * 2 ^ n) 0))
+  clamp-flags a s u (negsuc n) l =
+      raised-of f a s s u (suc (min n (reach f))) (sign-own s u (suc (min n (reach f))))
+      ∙ down-flags (wayOf a s) u n l
+      ∙ sym (raised-of f a s s u (suc n) (sign-own s u (suc n)))
+
+  -- the flags are those of the exact value, for every n
+  pub scalbn-flags : (a : Attribute) (x u : ℕ) (n : ℤ) → kind f x ≡ finite u → scalbnFlagsIn f a x n ≡ raised f a (minus f x) (exactScalbn f x n)
+  unfolding scalbnFlagsIn scalbnFlagsBy
+  scalbn-flags a x u n h =
+      let m = finite-is f x u h in
+      ap (scalbnFlagsBy f a x n) h ∙ clamp-flags a (minus f x) u n (omega (arith, m .counts, units-lt f (m .below))) ∙ ap (raised f a (minus f x)) (scaled-exact f g x u n h)
+
+  -- so they go with the answer
+  pub scalbn-flags-rule : (a : Attribute) (x u : ℕ) (n : ℤ) → kind f x ≡ finite u → FlagsRule f a (minus f x) (exactScalbn f x n) (scalbnIn f a x n) (scalbnFlagsIn f a x n)
+  scalbn-flags-rule a x u n h =
+      subst₂ (FlagsRule f a (minus f x) (exactScalbn f x n)) (sym (scalbn-answer f g a x u n h)) (sym (scalbn-flags a x u n h)) (raised-rule f g a (minus f x) (exactScalbn f x n))
+
+-- ---- every other row
+pub scalbn-flag-rows : (f : Format) (a : Attribute) (x : ℕ) (n : ℤ) → ScalbnFlagRows f a x n
+unfolding scalbnFlagsIn scalbnFlagsBy
+scalbn-flag-rows f a x n =
+    record {
+      of-signalling = λ h s. ap (scalbnFlagsBy f a x n) h ∙ ap nan-flags s;
+      of-quiet = λ h s. ap (scalbnFlagsBy f a x n) h ∙ ap nan-flags s;
+      of-infinity = λ h. ap (scalbnFlagsBy f a x n) h;
+    }
+
+pub scalbn-clean : (f : Format) → Fair f → (a : Attribute) (x : ℕ) (n : ℤ) → Clean (scalbnFlagsIn f a x n)
+unfolding scalbnFlagsIn scalbnFlagsBy
+scalbn-clean f g a x n = go (kind f x)
+  where
+    go : (k : Kind) → Clean (scalbnFlagsBy f a x n k)
+    go nan = either-clean (signals f x) none none-clean
+    go infinite = none-clean
+    go (finite u) =
+        raised-clean f g a (minus f x) (scaled (minus f x) u (clamp (reach f) n))
+
+module _ (f : Format) (g : Fair f) (x u : ℕ) (n : ℤ) (h : kind f x ≡ finite u) where
+  -- to the nearest even, overflow is raised exactly when the answer is an infinity
+  pub scalbn-overflow : (scalbnFlagsIn f ties-to-even x n .overflow ≡ true) ↔ (magnitude f (scalbnIn f ties-to-even x n) ≡ inf f)
+  scalbn-overflow =
+      rw (scalbn-flags f g ties-to-even x u n h, scalbn-answer f g ties-to-even x u n h) (nearest-overflow f g to-even (minus f x) (exactScalbn f x n))
+
+  -- down and up, the exact value lies between
+  pub scalbn-band : Band f (exactScalbn f x n) (scalbnIn f toward-negative x n) (scalbnIn f toward-positive x n) (scalbnFlagsIn f toward-negative x n) (scalbnFlagsIn f toward-positive x n)
+  scalbn-band =
+      rw (scalbn-answer f g toward-negative x u n h, scalbn-answer f g toward-positive x u n h, scalbn-flags f g toward-negative x u n h, scalbn-flags f g toward-positive x u n h)
+      (band f g (minus f x) (minus f x) (exactScalbn f x n))
