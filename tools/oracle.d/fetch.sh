@@ -8,7 +8,7 @@ fetch() { # USE FOLDER: every package of the use, unpacked into the folder
     while read -r use for bytes sum path; do
         [ "$use" = "$1" ] || continue
         [ "$for" = any ] || [ "$for" = "$machine" ] || continue
-        say "fetching ${path##*/} ($((bytes / 1000000)) MB)"
+        say "fetching ${path##*/} ($(((bytes + 500000) / 1000000)) MB)"
         case $path in
         main:*) pool=debian/pool/main ;;
         *) pool=debian-security/pool/updates/main ;;
@@ -36,8 +36,8 @@ download() { # URL FILE
     fi
 }
 
-unpack() { # PACKAGE FOLDER USE: of the text only the crate's own tree, of the vectors the archive that holds them
-    case $3 in text) only=./$libm ;; vectors) only=./$glibc ;; *) only= ;; esac
+unpack() { # PACKAGE FOLDER USE: of the text only the crate's own tree, of the vectors the archive that holds them, of SoftFloat its files
+    case $3 in text) only=./$libm ;; vectors) only=./$glibc ;; softfloat) only="./$runtime/softfloat ./$runtime/softfloat.c ./$runtime/softfloat.h" ;; *) only= ;; esac
     if command -v dpkg-deb >/dev/null 2>&1; then
         dpkg-deb --fsys-tarfile "$1"
     else
@@ -57,6 +57,12 @@ math=glibc-2.36/math
 vectors="$math/auto-libm-test-out-sqrt $math/auto-libm-test-out-fma $math/libm-test-sqrt.inc $math/libm-test-fma.inc $math/libm-test-scalbn.inc"
 fetch_vectors() {
     [ -d "$store/vectors/$math" ] || fetch vectors "$store/vectors"
+}
+
+# The package is made for one kind of machine; what is taken of it is text alone, the same in all of them.
+runtime=usr/share/systemtap/runtime
+fetch_softfloat() {
+    [ -d "$store/softfloat/$runtime" ] || fetch softfloat "$store/softfloat"
 }
 
 fetch_x86_rust() {
