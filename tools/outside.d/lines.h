@@ -1,0 +1,58 @@
+/* What a request, its answer and a back end are: shared by all files of tools/outside.d. */
+#ifndef LINES_H
+#define LINES_H
+
+#include <stdbool.h>
+#include <stddef.h>
+#include <stdint.h>
+
+enum operation { SQRT, FMA, SCALBN, FLOOR, TRUNC, OPERATIONS };
+enum width { W64, W32, W16, WIDTHS };
+/* RISC-V's numbers and SoftFloat's. OTHER is any number above them; floor and trunc are asked for their flags alone. */
+enum attribute { EVEN, ZERO, DOWN, UP, AWAY, OTHER, FLAGS, ATTRIBUTES };
+enum { INVALID = 1, DIVBYZERO = 4, OVERFLOW = 8, UNDERFLOW = 16, INEXACT = 32 };
+
+struct request {
+    enum operation operation;
+    enum width width;
+    enum attribute attribute;
+    uint64_t operand[3];
+    int32_t n;
+};
+
+struct answer {
+    uint64_t bits;
+    unsigned flags;
+};
+
+/* What becomes of a request: tally.c has the words for each reason to leave it out. */
+enum outcome { ANSWERED, NO_ATTRIBUTE, NO_WIDTH, NO_POWER, NOT_FINITE, TOO_LARGE, TININESS, PRODUCT, OUTCOMES };
+
+/* What each back end defines. */
+extern const char *const back_end;
+void prepare(void);
+enum outcome work_out(const struct request *request, struct answer *answer);
+
+/* format.c: what a back end asks about bit patterns. */
+extern const int digits[WIDTHS];
+uint64_t infinity(enum width width);
+uint64_t magnitude(enum width width, uint64_t bits);
+bool is_nan(enum width width, uint64_t bits);
+uint64_t canonical(enum width width, uint64_t bits);
+bool power_of_two(enum width width, int32_t n, uint64_t *bits);
+enum outcome fits_an_integer(enum width width, uint64_t bits);
+
+/* request.c: the request of a line, which is cut to it. Else false, and the error says what was found and what was expected. */
+struct text {
+    const char *start;
+    const char *end;
+};
+bool read_request(struct text *line, struct request *request, char *error, size_t room);
+
+/* tally.c */
+void count(const struct request *request, enum outcome outcome);
+void tell_counts(void);
+const char *operation_name(enum operation operation);
+const char *attribute_name(enum attribute attribute);
+
+#endif
