@@ -10,19 +10,31 @@
 }
 
 # what is wrong with a line, or nothing
-function fault(text,    op, at, wrong, expected) {
+function fault(text,    op, form, at, wrong, expected) {
     if (text ~ /\r$/) return "it ends in a carriage return"
     if (text ~ /^ /) return "a blank stands before the operation"
     op = text
     sub(/ .*/, "", op)
-    if (!(op in known)) return "unknown operation " quoted(op) "; expected one of " names
-    expected = "; expected " op " " shapeOf[baseOf(op)]
+    wrong = fault_of_name(op)
+    if (wrong != "") return wrong
+    form = formOf(op)
+    expected = "; expected " op " " shapeOf[form]
     if (text ~ / -> ?$/ || !index(text, " -> ")) return "the answer is missing" expected
     if (text ~ /  | $/) return "a blank too many" expected ", with single blanks between"
     at = index(text, " -> ")
-    wrong = fault_of_words(op, "operand", operandsOf[baseOf(op)], substr(text, length(op) + 2, at - length(op) - 2), expected)
+    wrong = fault_of_words(op, "operand", operandsOf[form], substr(text, length(op) + 2, at - length(op) - 2), expected)
     if (wrong != "") return wrong
-    return fault_of_words(op, "answer word", answersOf[baseOf(op)], substr(text, at + 4), expected)
+    return fault_of_words(op, "answer word", answersOf[form], substr(text, at + 4), expected)
+}
+
+function fault_of_name(op,    stem, suffix) {
+    if (op in known) return ""
+    stem = stemOf(op)
+    if (stem == op || !(stem in suffixKindOf)) return "unknown operation " quoted(op) "; expected one of " names ", or sqrtW.A, fmaW.A, scalbnW.A, floorW.flags or truncW.flags with W 64, 32 or 16"
+    suffix = suffixOf(op)
+    if (suffixKindOf[stem] == "flags") return suffix == "flags" ? "" : "unknown operation " quoted(op) "; expected " stem ".flags"
+    if (suffix in numberOfAttribute || is_number(suffix, 4294967295)) return ""
+    return "attribute " quoted(suffix) " of " quoted(op) " is none; expected even, zero, down, up, away or a decimal number from 0 to 4294967295"
 }
 
 function fault_of_words(op, what, kinds, text, expected,    wanted, found, kind, word, i, wrong) {
@@ -41,6 +53,7 @@ function fault_of_word(kind, width, word) {
     if (kind == "word") return is_word(word, width / 4) ? "" : quoted(word) " is not " width / 4 " lower-case hex digits"
     if (kind == "words") return fault_of_places(word, width / 4)
     if (kind == "status") return word in numberOfStatus ? "" : quoted(word) " is not a status: OK, INVALID, INEXACT or INVALID+INEXACT"
+    if (kind == "flags") return word in numberOfFlags ? "" : quoted(word) " is not flags: OK, or some of INVALID, DIVBYZERO, OVERFLOW, UNDERFLOW and INEXACT in this order, joined by +"
     if (kind == "unsigned") return is_number(word, 4294967295) ? "" : quoted(word) " is not a decimal number from 0 to 4294967295"
     if (is_number(word, 2147483647)) return ""
     if (word ~ /^-[1-9]/ && is_number(substr(word, 2), 2147483648)) return ""

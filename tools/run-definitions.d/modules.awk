@@ -1,28 +1,54 @@
-# Writes accepted lines as declarations, in modules of about `most` lines and places of lists, folder/NAME.antt with names that begin with `round`,
-# and prints NAME NUMBER for each line that it wrote. What a declaration says goes by `mode`:
-#   claim  the line's answer is the definition's; of a long list each part in a declaration of its own
-#   ask    an equation that is always refused, with a message that has the definition's answer; for all but long lists, which the message cannot hold
+# Writes accepted lines as declarations, in modules of equal work, folder/NAME.antt with names that begin with `round`, and prints NAME NUMBER GROUP for
+# each line that it wrote; the file `sums` gets NAME COUNT for each module, the count of lines up to its end. The lines are read twice, with pass 1 and 2.
+# What a declaration says goes by `mode`:
+#   claim  the line's answer is the definition's; of a long list each part in a declaration of its own. Lines with flags go many to a declaration, a group,
+#          by its first line, which is much quicker; but those in the file `doubted`, whose group was refused, one by one
+#   ask    an equation that is always refused, with a message that has the definition's answer; for all but long lists, which the message cannot hold.
+#          Flags can take more steps than a message is given, so of each there is an equation that is refused if it is raised
 #   deny   the part of a long list that was refused is not the definition's; the file of verdicts, read before the lines, has the part
 
 FILENAME == verdicts { partRefused[$1] = $3; next }
+FILENAME == doubted { isDoubted[$1] = 1; next }
 {
     take_apart()
     take_lists()
     if (mode == "ask" && isLong || mode == "deny" && !isLong) next
-    weight = 1 + afterCount
-    if (module == "" || held + weight > most) open_module()
-    held += weight
-    print module " " lineNumber
-    if (base != "list") write_line()
-    else if (isLong) write_long_list()
-    else write_list()
+}
+pass == 1 { total += weight(); next }
+{
+    # lines that are likely to be refused spoil no module of others
+    if (module == "" || work >= share * modules || (lineNumber in isDoubted) != forDoubted) open_module()
+    work += weight()
+    written++
+    if (form != base && mode == "claim" && !forDoubted) { add_to_group(); next }
+    print module " " lineNumber " " lineNumber
+    if (base == "list" && isLong) write_long_list()
+    else if (base == "list") write_list()
+    else if (form != base && mode == "ask") ask_with_flags()
+    else declare("line" lineNumber, set_terms())
+}
+END { if (module != "") close_module() }
+
+# what a line costs the checker, in ms on a machine of 2024; a module costs it 500 besides
+function weight() {
+    if (form == base) return (width == 64 ? 5 : 3) + 5 * afterCount
+    if (base == "floor" || base == "trunc") return width == 64 ? 5 : width == 32 ? 2 : 1
+    return width == 64 ? 10 : width == 32 ? 4 : 2
+}
+
+# the work of a module: `most` or less, so that as many run as rt runs beside each other, if they are worth their start
+function share_of_work(    n) {
+    n = int((total + most - 1) / most)
+    while (n % 4 && total / (n + 1) > 1000) n++
+    return total / n
 }
 
 function open_module() {
-    if (module != "") close(out)
+    if (module == "") share = share_of_work()
+    else close_module()
+    forDoubted = lineNumber in isDoubted
     module = round "x" (++modules)
     out = folder "/" module ".antt"
-    held = 0
     put("use Prim.Native.Nat.{ℕ, suc, _+_, _*_}\n")
     put("use mathlib.Core.Path.{_≡_, refl}\n")
     put("use mathlib.Core.Bool.{Bool, true, false, _&&_}\n")
@@ -30,18 +56,33 @@ function open_module() {
     put("use lib.ListN.{replicate, take, drop, length, getD}\n")
     put("use lib.Dec.{eqb}\n")
     put("use lib.IntN.{ℤ, pos, negsuc}\n")
-    put("use Rattle.ieee.specs.Format.{b64, b32}\n")
+    put("use Rattle.ieee.specs.Format.{b64, b32, b16}\n")
+    put("use Rattle.ieee.specs.Flags.{wordOf}\n")
     put("use Rattle.ieee.specs.Sqrt.{sqrtOf, sqrtStatus}\n")
-    put("use Rattle.ieee.specs.Whole.{floorOf, floorStatus, truncOf, truncStatus}\n")
+    put("use Rattle.ieee.specs.Whole.{floorOf, floorStatus, floorFlags, truncOf, truncStatus, truncFlags}\n")
     put("use Rattle.ieee.specs.Scalbn.{scalbnOf}\n")
     put("use Rattle.ieee.specs.Fma.{fmaOf}\n")
+    put("use Rattle.ieee.specs.Rounded.{Rounded, sqrtRounded, fmaRounded, scalbnRounded}\n")
     put("use Rattle.ieee.specs.Fmod.{fmodOf}\n")
     put("use Rattle.ieee.specs.Remquo.{remquoOf, quotientOf}\n")
     put("use Rattle.ieee.specs.Refusal.{numberOf, valueOf}\n")
     put("use Rattle.ieee.specs.Reduction.{reduceOf}\n")
     put("use Rattle.ieee.specs.Lists.{listOf}\n\n")
+    put_told()
     if (mode == "ask") put_shown()
     if (mode == "deny") put_same()
+}
+
+function close_module() {
+    write_group()
+    close(out)
+    print module " " written > sums
+}
+
+# the answer of a line with flags
+function put_told() {
+    put("abbrev told : Rounded → List ℕ\n")
+    put("told r = r .number ∷ r .value ∷ wordOf (r .flags) ∷ []\n\n")
 }
 
 function put_shown() {
@@ -65,30 +106,81 @@ function put_same() {
 
 function put(text) { printf "%s", text > out }
 
-# the terms of a line, in term[], and what the line says of each, in said[]
-function write_line(    format, n) {
+# the terms of a line, in term[], and what the line says of each, in said[]; how many there are
+function set_terms(    format) {
     format = " b" width
+    if (form != base) return set_terms_with_flags(format)
     if (base == "sqrt" || base == "floor" || base == "trunc") {
         term[1] = base "Of" format hex(1); said[1] = "0x" answer[1]
         term[2] = base "Status" format hex(1); said[2] = numberOfStatus[answer[2]]
-        n = 2
-    } else if (base == "reduce") {
+        return 2
+    }
+    if (base == "reduce") {
         term[1] = "numberOf (reduceOf " width hex(1) " " operand[2] hex(3) ")"; said[1] = answer[1]
         term[2] = "valueOf (reduceOf " width hex(1) " " operand[2] hex(3) ")"; said[2] = "0x" answer[2]
-        n = 2
-    } else if (base == "remquo") {
+        return 2
+    }
+    if (base == "remquo") {
         term[1] = "remquoOf" format hex(1) hex(2); said[1] = "0x" answer[1]
         term[2] = "quotientOf" format hex(1) hex(2); said[2] = whole(answer[2])
         if (mode == "ask") term[2] = "flat (" term[2] ")"
-        n = 2
-    } else {
-        term[1] = base "Of" format hex(1); said[1] = "0x" answer[1]
-        if (base == "scalbn") term[1] = term[1] " (" whole(operand[2]) ")"
-        if (base == "fmod") term[1] = term[1] hex(2)
-        if (base == "fma") term[1] = term[1] hex(2) hex(3)
-        n = 1
+        return 2
     }
-    declare("line" lineNumber, n)
+    term[1] = base "Of" format operand_terms(); said[1] = "0x" answer[1]
+    return 1
+}
+
+# one term: the list of the parts of the answer
+function set_terms_with_flags(format) {
+    if (form == base ".A") {
+        term[1] = "told (" rounded_call() ")"
+        said[1] = "(" answer[1] " ∷ 0x" answer[2] " ∷ " numberOfFlags[answer[3]] " ∷ [])"
+    } else {
+        term[1] = "(" base "Of" format hex(1) " ∷ wordOf (" base "Flags" format hex(1) ") ∷ [])"
+        said[1] = "(0x" answer[1] " ∷ " numberOfFlags[answer[2]] " ∷ [])"
+    }
+    return 1
+}
+
+function rounded_call() { return base "Rounded b" width " " attribute(suffixOf(op)) operand_terms() }
+
+function ask_with_flags(    flags, i) {
+    if (form == base ".A") {
+        term[1] = rounded_call() " .number"
+        term[2] = rounded_call() " .value"
+        flags = rounded_call() " .flags"
+    } else {
+        term[1] = base "Of b" width hex(1)
+        flags = base "Flags b" width hex(1)
+    }
+    declare("line" lineNumber, form == base ".A" ? 2 : 1)
+    for (i = 1; i <= flagCount; i++) put_declaration("line" lineNumber "-flag" i, flags " ." flagField[i] " ≡ false", "refl", definitionsOf[form])
+}
+
+# all operands, of which those after the first are words too, or one number with a sign
+function operand_terms(    i, text) {
+    if (base == "scalbn") return hex(1) " (" whole(operand[2]) ")"
+    for (i = 1; i <= operandCount; i++) text = text hex(i)
+    return text
+}
+
+# ---- a group: an equation of two lists, with a place for each line
+function add_to_group() {
+    if (grouped == 0) groupName = lineNumber
+    print module " " lineNumber " " groupName
+    set_terms()
+    groupTerms = groupTerms term[1] " ∷ "
+    groupSaid = groupSaid said[1] " ∷ "
+    if (!index(" " groupDefinitions " ", " " definitionsOf[form] " ")) groupDefinitions = groupDefinitions (grouped ? " " : "") definitionsOf[form]
+    if (++grouped == 16) write_group()
+}
+
+# a refusal of one line names that line
+function write_group() {
+    if (grouped == 0) return
+    put_declaration((grouped == 1 ? "line" : "lines") groupName, "(" groupTerms "[]) ≡ (" groupSaid "[])", "refl", groupDefinitions)
+    groupTerms = groupSaid = groupDefinitions = ""
+    grouped = 0
 }
 
 function hex(i) { return " 0x" operand[i] }
@@ -103,11 +195,11 @@ function declare(name, n,    i, claim, proof) {
         else claim = claim (i > 1 ? " × " : "") "(" term[i] " ≡ " said[i] ")"
         proof = proof (i > 1 ? ", " : "") "refl"
     }
-    if (mode == "ask") put_declaration(name, "shown (" claim "[]) ≡ 0", "refl")
-    else put_declaration(name, claim, "(" proof ")")
+    if (mode == "ask") put_declaration(name, "shown (" claim "[]) ≡ 0", "refl", definitionsOf[form])
+    else put_declaration(name, claim, "(" proof ")", definitionsOf[form])
 }
 
-function put_declaration(name, claim, proof) { put(name " : " claim "\nunfolding " definitionsOf[base] "\n" name " = " proof "\n\n") }
+function put_declaration(name, claim, proof, definitions) { put(name " : " claim "\nunfolding " definitions "\n" name " = " proof "\n\n") }
 
 # the call of a list line, after its lists
 function list_call() {
@@ -151,8 +243,8 @@ function write_long_list(    call, k, from, to, name) {
 
 # claims a part, or denies it by the test for equality, if it is the one that was refused
 function write_part(part, found, claimed, test) {
-    if (mode == "claim") put_declaration("line" lineNumber "-" part, found " ≡ " claimed, "refl")
-    else if (partRefused[lineNumber] == part) put_declaration("line" lineNumber "-" part, test " (" found ") " claimed " ≡ false", "refl")
+    if (mode == "claim") put_declaration("line" lineNumber "-" part, found " ≡ " claimed, "refl", definitionsOf[form])
+    else if (partRefused[lineNumber] == part) put_declaration("line" lineNumber "-" part, test " (" found ") " claimed " ≡ false", "refl", definitionsOf[form])
 }
 
 # places from..to of a list, under a name; a run of equal places is written as one, which the checker then computes once
