@@ -29,7 +29,7 @@ pass == 1 { total += weight(); next }
 }
 END { if (module != "") close_module() }
 
-# what a line costs the checker, in ms on a machine of 2024; a module costs it 500 besides
+# what a line costs the checker, in ms or so; a module costs it 500 besides
 function weight() {
     if (form == base) return (width == 64 ? 5 : 3) + 5 * afterCount
     if (base == "floor" || base == "trunc") return width == 64 ? 5 : width == 32 ? 2 : 1
