@@ -46,7 +46,7 @@ function share_of_work(    n) {
 function open_module() {
     if (module == "") share = share_of_work()
     else close_module()
-    forDoubted = lineNumber in isDoubted
+    forDoubted = (lineNumber in isDoubted)
     module = round "x" (++modules)
     out = folder "/" module ".antt"
     put("use Prim.Native.Nat.{ℕ, suc, _+_, _*_}\n")
