@@ -1,8 +1,9 @@
 // The operations themselves, on exact whole numbers of smallest units.
 
+use crate::answers_flags;
 use crate::big::Big;
 use crate::format::{Format, WIDTH_64};
-use crate::operations::{Field, Operation, Status, Task, INEXACT, INVALID, OK};
+use crate::operations::{Field, Form, Operation, Status, Task, INEXACT, INVALID, OK};
 use crate::rounding::{exact, nearest, nearest_root};
 
 const LONGEST_LIST: usize = 8192;
@@ -11,6 +12,9 @@ const LARGEST_SHIFT: u32 = 4096;
 /// The whole answer of an operation, in the order the line format writes it.
 pub fn judge(operation: &Operation, operands: &[Field]) -> Vec<Field> {
     use Field::{Signed, Unsigned, Word, Words};
+    if operation.form != Form::Plain {
+        return answers_flags::judge(operation, operands);
+    }
     let format = operation.format;
     let with_status = |(value, status)| vec![Word(value), Field::Status(status)];
     match (operation.task, operands) {

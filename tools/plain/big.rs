@@ -138,6 +138,13 @@ impl Big {
         Big::trimmed(words)
     }
 
+    /// The whole part of self / 2^shift, modulo 2^64.
+    pub fn word_from(&self, shift: u32) -> u64 {
+        let (whole, bits) = ((shift / 64) as usize, shift % 64);
+        let wide = ((self.word(whole + 1) as u128) << 64) | self.word(whole) as u128;
+        (wide >> bits) as u64
+    }
+
     /// Whole quotient and remainder; the divisor must not be zero.
     pub fn div_rem(&self, divisor: &Big) -> (Big, Big) {
         assert!(!divisor.is_zero(), "a division by zero was asked for");

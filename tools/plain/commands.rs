@@ -1,8 +1,9 @@
 // The commands that read lines: answering requests and checking claims.
 
 use crate::answers::judge;
+use crate::forms::forms;
 use crate::lines::{read_line, write_fields, write_request, Line};
-use crate::operations::{Field, OPERATIONS};
+use crate::operations::{Field, Operation, OPERATIONS};
 use std::fs::File;
 use std::io::{self, BufRead, BufReader, Write};
 
@@ -61,27 +62,54 @@ pub fn answer(path: &str, out: &mut dyn Write) -> Result<bool, Trouble> {
     Ok(sound)
 }
 
+/// What a check has counted for one operation.
+struct Count {
+    operation: &'static Operation,
+    claims: usize,
+    disagreements: usize,
+}
+
 /// What a check has counted.
 struct Counts {
-    claims: [usize; OPERATIONS.len()],
-    disagreements: [usize; OPERATIONS.len()],
+    each: Vec<Count>,
     malformed: usize,
 }
 
 impl Counts {
+    fn new() -> Counts {
+        let all = OPERATIONS.iter().chain(forms());
+        let each = all.map(|operation| Count { operation, claims: 0, disagreements: 0 });
+        Counts { each: each.collect(), malformed: 0 }
+    }
+
+    fn of(&mut self, operation: &'static Operation) -> &mut Count {
+        let place = self.each.iter().position(|one| std::ptr::eq(one.operation, operation));
+        &mut self.each[place.expect("every operation is counted")]
+    }
+
     fn malformed(&mut self, path: &str, number: usize, expected: &str) {
         self.malformed += 1;
         eprintln!("{path}:{number}: error: {expected}");
+    }
+
+    /// A line for each plain operation, and for each other that had claims.
+    fn write(&self, out: &mut dyn Write) -> io::Result<(usize, usize)> {
+        let (mut all_claims, mut all_found) = (0, 0);
+        for (place, Count { operation, claims, disagreements }) in self.each.iter().enumerate() {
+            if place < OPERATIONS.len() || *claims > 0 {
+                let name = operation.name;
+                writeln!(out, "{name} {claims} claims, {disagreements} disagreements")?;
+            }
+            all_claims += claims;
+            all_found += disagreements;
+        }
+        Ok((all_claims, all_found))
     }
 }
 
 /// Holds every claim against the judge; tells whether nothing was found.
 pub fn check(path: &str, out: &mut dyn Write) -> Result<bool, Trouble> {
-    let mut counts = Counts {
-        claims: [0; OPERATIONS.len()],
-        disagreements: [0; OPERATIONS.len()],
-        malformed: 0,
-    };
+    let mut counts = Counts::new();
     for_each_line(path, |number, read| match read {
         Ok(None) => Ok(()),
         Ok(Some(line)) => match line.read_claim() {
@@ -90,12 +118,7 @@ pub fn check(path: &str, out: &mut dyn Write) -> Result<bool, Trouble> {
         },
         Err(expected) => Ok(counts.malformed(path, number, &expected)),
     })?;
-    for (place, operation) in OPERATIONS.iter().enumerate() {
-        let (claims, found) = (counts.claims[place], counts.disagreements[place]);
-        writeln!(out, "{} {claims} claims, {found} disagreements", operation.name)?;
-    }
-    let (claims, found): (usize, usize) =
-        (counts.claims.iter().sum(), counts.disagreements.iter().sum());
+    let (claims, found) = counts.write(out)?;
     let malformed = counts.malformed;
     writeln!(out, "total {claims} claims, {found} disagreements, {malformed} malformed lines")?;
     if claims == 0 {
@@ -112,11 +135,11 @@ fn check_line(
     out: &mut dyn Write,
 ) -> io::Result<()> {
     let operation = line.operation;
-    let place = OPERATIONS.iter().position(|one| one.name == operation.name).unwrap_or(0);
-    counts.claims[place] += 1;
+    let count = counts.of(operation);
+    count.claims += 1;
     let judged = judge(operation, &line.operands);
     if judged != claim {
-        counts.disagreements[place] += 1;
+        count.disagreements += 1;
         let request = write_request(operation, &line.operands);
         let (own, other) = (write_fields(operation, &judged), write_fields(operation, claim));
         writeln!(out, "{path}:{number}: disagreement: {}", cut(&request, 0))?;

@@ -8,7 +8,9 @@ use crate::random::Random;
 /// An operand for the root. `turn` picks the kind, so that all kinds come.
 pub fn for_root(format: Format, turn: usize, random: &mut Random) -> u64 {
     let digits = format.fraction_bits + 1;
-    let even = 2 * random.between(lowest(format) / 2, (highest(format) - 60) / 2);
+    // At 16 bits the range is too short for the room that the others have.
+    let most = ((highest(format) - 60) / 2).max(lowest(format) / 2 + 8);
+    let even = 2 * random.between(lowest(format) / 2, most);
     match turn % 8 {
         0 => any(format, random),
         1 | 2 => {

@@ -1,8 +1,8 @@
-// The two widths: where the fields of a pattern stand and which number it means.
+// The widths: where the fields of a pattern stand and which number it means.
 
 use crate::big::Big;
 
-/// A binary interchange format of IEEE 754. Patterns of both widths are held
+/// A binary interchange format of IEEE 754. Patterns of every width are held
 /// in the low bits of a 64-bit word.
 #[derive(Clone, Copy, Debug, PartialEq, Eq)]
 pub struct Format {
@@ -12,6 +12,7 @@ pub struct Format {
 
 pub const WIDTH_64: Format = Format { width: 64, fraction_bits: 52 };
 pub const WIDTH_32: Format = Format { width: 32, fraction_bits: 23 };
+pub const WIDTH_16: Format = Format { width: 16, fraction_bits: 10 };
 
 impl Format {
     pub fn sign_bit(self) -> u64 {
@@ -48,7 +49,7 @@ impl Format {
         (1 << (self.width - 2 - self.fraction_bits)) - 1
     }
 
-    /// The smallest unit is 2 to the minus this: 1074 at 64, 149 at 32.
+    /// The smallest unit is 2 to the minus this: 1074 at 64, 149 at 32, 24 at 16.
     pub fn unit_shift(self) -> u32 {
         self.bias() - 1 + self.fraction_bits
     }
@@ -77,6 +78,12 @@ impl Format {
         self.magnitude(pattern) > self.infinity()
     }
 
+    /// A NaN whose first fraction digit is 0.
+    pub fn is_signalling(self, pattern: u64) -> bool {
+        let first_digit = self.smallest_normal() >> 1;
+        self.is_nan(pattern) && pattern & first_digit == 0
+    }
+
     pub fn is_infinite(self, pattern: u64) -> bool {
         self.magnitude(pattern) == self.infinity()
     }
@@ -87,6 +94,16 @@ impl Format {
 
     pub fn is_zero(self, pattern: u64) -> bool {
         self.magnitude(pattern) == 0
+    }
+
+    /// The magnitude of a finite pattern: the first times 2 to the second.
+    pub fn significand(self, pattern: u64) -> (u64, i64) {
+        let lowest = -(self.unit_shift() as i64);
+        let fraction = self.fraction_field(pattern);
+        match self.exponent_field(pattern) {
+            0 => (fraction, lowest),
+            field => (fraction + self.smallest_normal(), lowest + field as i64 - 1),
+        }
     }
 
     /// The magnitude of a finite pattern, in smallest units.
@@ -105,7 +122,7 @@ impl Format {
 
     /// The first magnitude that rounds to infinity, in smallest units times
     /// 2^shift: half a last place above the largest finite number, which is
-    /// 2^1024 - 2^970 at 64 and 2^128 - 2^103 at 32.
+    /// 2^1024 - 2^970 at 64, 2^128 - 2^103 at 32 and 2^16 - 2^4 at 16.
     pub fn scaled_overflow(self, shift: u32) -> Big {
         let top = self.bias() + 1 + self.unit_shift() + shift;
         let half_place = top - self.fraction_bits - 2;

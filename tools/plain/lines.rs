@@ -1,7 +1,9 @@
 // The line format of docs/LINES.md: reading and writing.
 
 use crate::format::Format;
-use crate::operations::{find, Field, Kind, Operation, Status, OK, STATUS_WORDS};
+use crate::forms::{expected_names, find_form};
+use crate::operations::{find, Field, Flags, Form, Kind, Operation, Status};
+use crate::operations::{FLAG_WORDS, STATUS_WORDS};
 
 /// One request, with the text after the arrow if the line has one. That text
 /// is read only when it is asked for: who answers requests ignores claims.
@@ -36,10 +38,18 @@ pub fn read_line(text: &str) -> Result<Option<Line>, String> {
         None => (text, None),
     };
     let (name, rest) = request.split_once(' ').unwrap_or((request, ""));
-    let operation = find(name)
-        .ok_or_else(|| format!("no operation {}; expected {}", quoted(name), known_names()))?;
-    let operands = read_fields(operation, "operand", operation.operand_kinds(), rest)?;
+    let unknown = || format!("no operation {}; expected {}", quoted(name), expected_names(name));
+    let (operation, attribute) = find_named(name).ok_or_else(unknown)?;
+    let mut operands = read_fields(operation, "operand", operation.operand_kinds(), rest)?;
+    if let Some(number) = attribute {
+        operands.insert(0, Field::Unsigned(number));
+    }
     Ok(Some(Line { operation, operands, claim: claim.map(str::to_string) }))
+}
+
+/// The operation of a name, and the attribute where that is a number.
+pub fn find_named(name: &str) -> Option<(&'static Operation, Option<u32>)> {
+    find(name).map(|plain| (plain, None)).or_else(|| find_form(name))
 }
 
 fn read_fields(
@@ -48,19 +58,21 @@ fn read_fields(
     kinds: &[Kind],
     text: &str,
 ) -> Result<Vec<Field>, String> {
-    let shape = format!("expected {} {}", operation.name, operation.shape);
+    let shape = || format!("expected {} {}", operation.name, operation.shape);
     let tokens: Vec<&str> = match text {
         "" => Vec::new(),
         _ => text.split(' ').collect(),
     };
     if tokens.iter().any(|token| token.is_empty()) {
+        let shape = shape();
         return Err(format!("a blank too many near the {what}; {shape}, single blanks between"));
     }
     if tokens.len() != kinds.len() {
-        let (found, wanted) = (tokens.len(), kinds.len());
+        let (found, wanted, shape) = (tokens.len(), kinds.len(), shape());
         return Err(format!("number of {what} fields is {found}, not {wanted}; {shape}"));
     }
-    let mut fields = Vec::new();
+    // Room for the number of an attribute, which comes before the operands.
+    let mut fields = Vec::with_capacity(kinds.len() + 1);
     for (place, (kind, token)) in kinds.iter().zip(&tokens).enumerate() {
         let field = read_field(*kind, operation.format, token).ok_or_else(|| {
             let wanted = describe(*kind, operation.format);
@@ -89,7 +101,8 @@ fn read_field(kind: Kind, format: Format, token: &str) -> Option<Field> {
                 token.split(',').map(|word| read_word(format, word)).collect();
             words.map(Field::Words)
         }
-        Kind::Status => read_status(token).map(Field::Status),
+        Kind::Status => Some(Field::Status(Status(read_raised(&STATUS_WORDS, token)?))),
+        Kind::Flags => Some(Field::Flags(Flags(read_raised(&FLAG_WORDS, token)?))),
     }
 }
 
@@ -101,9 +114,18 @@ fn read_word(format: Format, token: &str) -> Option<u64> {
     u64::from_str_radix(token, 16).ok()
 }
 
-fn read_status(token: &str) -> Option<Status> {
-    let all = 0..1u8 << STATUS_WORDS.len();
-    all.map(Status).find(|status| write_status(*status) == token)
+/// One bit for each of the words, which stand once and in their order.
+fn read_raised(words: &[&str], token: &str) -> Option<u8> {
+    if token == "OK" {
+        return Some(0);
+    }
+    let (mut raised, mut next) = (0, 0);
+    for part in token.split('+') {
+        let place = next + words[next..].iter().position(|word| *word == part)?;
+        raised |= 1 << place;
+        next = place + 1;
+    }
+    Some(raised)
 }
 
 fn describe(kind: Kind, format: Format) -> String {
@@ -113,13 +135,13 @@ fn describe(kind: Kind, format: Format) -> String {
         Kind::Signed => "a decimal number from -2147483648 to 2147483647".to_string(),
         Kind::Unsigned => "a decimal number from 0 to 4294967295".to_string(),
         Kind::Words => format!("words of {digits} lower-case hex digits joined by commas, or -"),
-        Kind::Status => format!("OK or words of {} joined by +", STATUS_WORDS.join(", ")),
+        Kind::Status => describe_raised(&STATUS_WORDS),
+        Kind::Flags => describe_raised(&FLAG_WORDS),
     }
 }
 
-fn known_names() -> String {
-    let names: Vec<&str> = crate::operations::OPERATIONS.iter().map(|one| one.name).collect();
-    names.join(" ")
+fn describe_raised(words: &[&str]) -> String {
+    format!("OK or words of {} joined by +", words.join(", "))
 }
 
 /// A token as an error message shows it, cut where a list would fill the screen.
@@ -130,40 +152,69 @@ fn quoted(token: &str) -> String {
     }
 }
 
+/// The request again, with its name as it was written.
 pub fn write_request(operation: &Operation, operands: &[Field]) -> String {
-    format!("{} {}", operation.name, write_fields(operation, operands))
+    let mut text = String::with_capacity(72);
+    match (operation.form, operands) {
+        (Form::Numbered, [Field::Unsigned(number), rest @ ..]) => {
+            text.push_str(&format!("{}.{number}", operation.stem()));
+            push_fields(&mut text, operation, " ", rest);
+        }
+        _ => {
+            text.push_str(operation.name);
+            push_fields(&mut text, operation, " ", operands);
+        }
+    }
+    text
 }
 
 pub fn write_fields(operation: &Operation, fields: &[Field]) -> String {
-    let texts: Vec<String> =
-        fields.iter().map(|field| write_field(operation.format, field)).collect();
-    texts.join(" ")
+    let mut text = String::with_capacity(72);
+    push_fields(&mut text, operation, "", fields);
+    text
 }
 
-fn write_field(format: Format, field: &Field) -> String {
+/// The fields with single blanks between, and `before` in front.
+fn push_fields(text: &mut String, operation: &Operation, before: &str, fields: &[Field]) {
+    for (place, field) in fields.iter().enumerate() {
+        text.push_str(if place == 0 { before } else { " " });
+        push_field(text, operation.format, field);
+    }
+}
+
+fn push_field(text: &mut String, format: Format, field: &Field) {
     match field {
-        Field::Word(word) => write_word(format, *word),
-        Field::Signed(number) => number.to_string(),
-        Field::Unsigned(number) => number.to_string(),
-        Field::Words(words) if words.is_empty() => "-".to_string(),
+        Field::Word(word) => push_word(text, format, *word),
+        Field::Signed(number) => text.push_str(&number.to_string()),
+        Field::Unsigned(number) => text.push_str(&number.to_string()),
+        Field::Words(words) if words.is_empty() => text.push('-'),
         Field::Words(words) => {
-            let texts: Vec<String> = words.iter().map(|word| write_word(format, *word)).collect();
-            texts.join(",")
+            for (place, word) in words.iter().enumerate() {
+                text.push_str(if place == 0 { "" } else { "," });
+                push_word(text, format, *word);
+            }
         }
-        Field::Status(status) => write_status(*status),
+        Field::Status(status) => push_raised(text, &STATUS_WORDS, status.0),
+        Field::Flags(flags) => push_raised(text, &FLAG_WORDS, flags.0),
     }
 }
 
-fn write_word(format: Format, word: u64) -> String {
-    format!("{word:0digits$x}", digits = format.width as usize / 4)
+fn push_word(text: &mut String, format: Format, word: u64) {
+    for place in (0..format.width / 4).rev() {
+        text.push(b"0123456789abcdef"[(word >> (4 * place) & 15) as usize] as char);
+    }
 }
 
-fn write_status(status: Status) -> String {
-    if status == OK {
-        return "OK".to_string();
+fn push_raised(text: &mut String, words: &[&str], raised: u8) {
+    if raised == 0 {
+        text.push_str("OK");
     }
-    let raised = |place: &usize| status.0 >> place & 1 == 1;
-    let words: Vec<&str> =
-        (0..STATUS_WORDS.len()).filter(raised).map(|place| STATUS_WORDS[place]).collect();
-    words.join("+")
+    let mut before = "";
+    for (place, word) in words.iter().enumerate() {
+        if raised >> place & 1 == 1 {
+            text.push_str(before);
+            text.push_str(word);
+            before = "+";
+        }
+    }
 }

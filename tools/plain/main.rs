@@ -1,12 +1,15 @@
 // The plain program: an independent judge of the operations. Commands and help.
 
 mod answers;
+mod answers_flags;
+mod attributes;
 mod big;
 mod cases;
 mod commands;
 mod draws_several;
 mod draws_single;
 mod format;
+mod forms;
 mod grids;
 mod lines;
 mod operands;
@@ -39,6 +42,19 @@ answer FILE|-
 Writes every request line of FILE (- is standard input) with its answer.
 A claim after -> is passed over, and so are comments and empty lines.
 A malformed line is reported on standard error as FILE:LINE: error: ...
+Beside the operations of docs/LINES.md it answers, with 64, 32 or 16 for W:
+
+  sqrtW.A X         -> NUMBER R FLAGS
+  fmaW.A X Y Z      -> NUMBER R FLAGS
+  scalbnW.A X N     -> NUMBER R FLAGS
+  floorW.flags X    -> R FLAGS
+  truncW.flags X    -> R FLAGS
+
+A is the rounding attribute: even, zero, down, up or away, or its number, 0 to
+4 in this order. Under any other number NUMBER is 10, R zero and FLAGS OK; else
+NUMBER is 0. FLAGS is OK, or the flags raised joined by +, in this order:
+INVALID, DIVBYZERO, OVERFLOW, UNDERFLOW, INEXACT. Tininess is judged after
+rounding. A word has four hex digits at 16.
 Exit status: 0, or 1 if a line was malformed, or 2 for bad usage.
 ";
 
@@ -46,7 +62,9 @@ const CHECK_HELP: &str = "\
 check FILE|-
 
 Checks every claim of FILE (- is standard input) and prints each disagreement
-with its line number and both answers, then counts for each operation. A
+with its line number and both answers, then counts for each operation without
+an attribute, and for each name with an attribute or flags that had claims; an
+attribute that is a number is counted under NUMBER, as in sqrt64.NUMBER. A
 request without a claim counts as malformed. Answers are compared bit for bit.
 Exit status: 0 if every claim is right and there is one, or 1 for a
 disagreement, a malformed line or no claim at all, or 2 for bad usage.
@@ -70,7 +88,8 @@ witness --seed N --count K
 Holds K requests for each operation against a second computation: the C
 library's functions (values only, any two NaNs equal, remquo's quotient by
 sign and modulo 8), for the reduction doubling step by step, for the list call
-the C library in each place. Also checks the program's own division.
+the C library in each place, for each name under even or with flags a search
+among the neighbours (values only). Also checks the program's own division.
 N is a decimal number below 2^64, K at least 1.
 Exit status: 0, or 1 for a disagreement, or 2 for bad usage.
 ";

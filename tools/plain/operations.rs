@@ -1,5 +1,6 @@
 // The operations by name, with the kinds of their operands and answers.
 
+use crate::attributes::Attribute;
 use crate::format::{Format, WIDTH_32, WIDTH_64};
 
 #[derive(Clone, Copy, Debug, PartialEq, Eq)]
@@ -23,6 +24,7 @@ pub enum Kind {
     Unsigned,
     Words,
     Status,
+    Flags,
 }
 
 #[derive(Clone, Debug, PartialEq, Eq)]
@@ -32,6 +34,7 @@ pub enum Field {
     Unsigned(u32),
     Words(Vec<u64>),
     Status(Status),
+    Flags(Flags),
 }
 
 /// One bit for each word of STATUS_WORDS, the first word lowest.
@@ -43,10 +46,39 @@ pub const OK: Status = Status(0);
 pub const INVALID: Status = Status(1);
 pub const INEXACT: Status = Status(2);
 
+/// One bit for each word of FLAG_WORDS, the first word lowest.
+#[derive(Clone, Copy, Debug, PartialEq, Eq)]
+pub struct Flags(pub u8);
+
+pub const FLAG_WORDS: [&str; 5] = ["INVALID", "DIVBYZERO", "OVERFLOW", "UNDERFLOW", "INEXACT"];
+
+impl Flags {
+    pub const NONE: Flags = Flags(0);
+    pub const INVALID: Flags = Flags(1);
+    pub const OVERFLOW: Flags = Flags(4);
+    pub const UNDERFLOW: Flags = Flags(8);
+    pub const INEXACT: Flags = Flags(16);
+
+    pub fn and(self, other: Flags) -> Flags {
+        Flags(self.0 | other.0)
+    }
+}
+
+/// Which of its lines an operation stands on.
+#[derive(Clone, Copy, Debug, PartialEq, Eq)]
+pub enum Form {
+    Plain,
+    Attribute(Attribute),
+    /// The number of the attribute is the first operand, written in the name.
+    Numbered,
+    Flags,
+}
+
 pub struct Operation {
     pub name: &'static str,
     pub task: Task,
     pub format: Format,
+    pub form: Form,
     pub shape: &'static str,
 }
 
@@ -56,7 +88,7 @@ const fn operation(
     format: Format,
     shape: &'static str,
 ) -> Operation {
-    Operation { name, task, format, shape }
+    Operation { name, task, format, form: Form::Plain, shape }
 }
 
 pub static OPERATIONS: [Operation; 16] = [
@@ -83,6 +115,7 @@ pub fn find(name: &str) -> Option<&'static Operation> {
 }
 
 impl Operation {
+    /// The kinds of the operands after the name.
     pub fn operand_kinds(&self) -> &'static [Kind] {
         match self.task {
             Task::Sqrt | Task::Floor | Task::Trunc => &[Kind::Word],
@@ -95,6 +128,13 @@ impl Operation {
     }
 
     pub fn answer_kinds(&self) -> &'static [Kind] {
+        match self.form {
+            Form::Plain => (),
+            Form::Flags => return &[Kind::Word, Kind::Flags],
+            Form::Attribute(_) | Form::Numbered => {
+                return &[Kind::Unsigned, Kind::Word, Kind::Flags]
+            }
+        }
         match self.task {
             Task::Sqrt | Task::Floor | Task::Trunc => &[Kind::Word, Kind::Status],
             Task::Scalbn | Task::Fma | Task::Fmod => &[Kind::Word],

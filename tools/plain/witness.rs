@@ -1,11 +1,13 @@
 // The judge held against the C library; the only file with floating-point numbers.
 
-use crate::answers::judge;
+use crate::answers::{self, judge};
+use crate::attributes::Attribute;
 use crate::big::Big;
 use crate::cases::Requests;
 use crate::format::Format;
+use crate::forms::forms;
 use crate::lines::{write_fields, write_request};
-use crate::operations::{Field, Operation, Task, OPERATIONS};
+use crate::operations::{Field, Form, Operation, Task, OPERATIONS};
 use crate::random::Random;
 use std::io::{self, Write};
 use std::time::Instant;
@@ -131,9 +133,38 @@ fn list_by_library(number: u32, input: &[u64], output: &[u64]) -> (u32, Vec<u64>
     (0, input.iter().map(place).collect())
 }
 
+/// The value to nearest even, and the integer, by the search among neighbours.
+fn by_search(operation: &Operation, operands: &[Field]) -> Option<u64> {
+    use Field::{Signed, Word};
+    let format = operation.format;
+    match (operation.task, operands) {
+        (Task::Sqrt, [Word(x)]) => Some(answers::sqrt(format, *x).0),
+        (Task::Scalbn, [Word(x), Signed(n)]) => Some(answers::scalbn(format, *x, *n)),
+        (Task::Fma, [Word(x), Word(y), Word(z)]) => Some(answers::fma(format, *x, *y, *z)),
+        (Task::Floor, [Word(x)]) => Some(answers::floor(format, *x).0),
+        (Task::Trunc, [Word(x)]) => Some(answers::trunc(format, *x).0),
+        _ => None,
+    }
+}
+
+/// The value of a line that tells flags against the search. Bit for bit: both
+/// ways have the same rule for NaNs.
+fn search_differs(operation: &Operation, operands: &[Field], judged: &[Field]) -> Option<String> {
+    let other = by_search(operation, operands);
+    let same = match judged {
+        [Field::Unsigned(0), Field::Word(value), _] => other == Some(*value),
+        [Field::Word(value), _] => other == Some(*value),
+        _ => false,
+    };
+    (!same).then(|| other.map_or("no second answer".to_string(), |other| format!("{other:x}")))
+}
+
 /// Nothing when both agree, else what the other side says.
 fn disagreement(operation: &Operation, operands: &[Field], judged: &[Field]) -> Option<String> {
     let format = operation.format;
+    if operation.form != Form::Plain {
+        return search_differs(operation, operands, judged);
+    }
     match (operands, judged) {
         ([Field::Word(x), Field::Unsigned(shift), Field::Word(y)], _) => {
             let (refusal, value) = reduce_by_doubling(format.width, *x, *shift, *y);
@@ -223,7 +254,9 @@ pub fn run(seed: u64, count: usize, out: &mut dyn Write) -> io::Result<usize> {
     let failed = (0..count).filter(|_| !division_holds(&mut random)).count();
     writeln!(out, "division {count} numbers, {failed} disagreements")?;
     let mut disagreements = failed;
-    for operation in &OPERATIONS {
+    let even = Form::Attribute(Attribute::Even);
+    let is_searched = |form: &&Operation| form.form == even || form.form == Form::Flags;
+    for operation in OPERATIONS.iter().chain(forms().iter().filter(is_searched)) {
         disagreements += run_operation(operation, seed, count, out)?;
     }
     writeln!(out, "total {disagreements} disagreements")?;
