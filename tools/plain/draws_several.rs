@@ -1,6 +1,7 @@
 // Drawn operands for fma, fmod, remquo, the reduction and the list call.
 
-use crate::answers::fma;
+use crate::answers_flags::fma;
+use crate::attributes::Attribute;
 use crate::format::{Format, WIDTH_64};
 use crate::operands::*;
 use crate::random::Random;
@@ -30,7 +31,7 @@ fn factors(format: Format, random: &mut Random, first: u64, second: u64, sum: i3
 }
 
 /// The last digit of the product stands half a last place below z.
-fn tie_by_sum(format: Format, random: &mut Random) -> [u64; 3] {
+pub fn tie_by_sum(format: Format, random: &mut Random) -> [u64; 3] {
     let z = finite(format, random);
     let half = format.fraction_bits / 2;
     let (first, second) = (random.up_to_bits(half) | 1, random.up_to_bits(half) | 1);
@@ -40,7 +41,7 @@ fn tie_by_sum(format: Format, random: &mut Random) -> [u64; 3] {
 
 /// The product is half a last place of z but for a digit far below. Under a
 /// power of two the places are half as wide, so a quarter is taken as well.
-fn tie_with_far_tail(format: Format, random: &mut Random) -> [u64; 3] {
+pub fn tie_with_far_tail(format: Format, random: &mut Random) -> [u64; 3] {
     let z = finite(format, random);
     let digits = format.fraction_bits;
     let one = 1u64 << digits;
@@ -59,7 +60,7 @@ fn tie_with_far_tail(format: Format, random: &mut Random) -> [u64; 3] {
 }
 
 /// As before, but with nothing except zeros between the tie and its tail.
-fn tie_with_far_tail_above(format: Format, random: &mut Random) -> [u64; 3] {
+pub fn tie_with_far_tail_above(format: Format, random: &mut Random) -> [u64; 3] {
     let z = finite(format, random);
     let most = longest_gap(format);
     let spread = if random.coin() { 5 } else { most as u64 };
@@ -91,7 +92,7 @@ pub fn far_tail_above(
 }
 
 /// The product alone is a tie: odd, and one digit longer than a significand.
-fn tie_by_product(format: Format, random: &mut Random) -> [u64; 3] {
+pub fn tie_by_product(format: Format, random: &mut Random) -> [u64; 3] {
     let long = format.fraction_bits + 2;
     let (mut first, mut second) = (1, 1);
     while (first as u128 * second as u128) >> (long - 1) != 1 {
@@ -111,17 +112,17 @@ fn tie_by_product(format: Format, random: &mut Random) -> [u64; 3] {
 }
 
 /// z is the rounded product with the other sign, or close to that.
-fn cancellation(format: Format, random: &mut Random) -> [u64; 3] {
+pub fn cancellation(format: Format, random: &mut Random) -> [u64; 3] {
     let (first, second) = (significand(format, random), significand(format, random));
     let sum = random.between(lowest(format) - 60, highest(format)) - format.fraction_bits as i32;
     let (x, y) = factors(format, random, first, second, sum - format.fraction_bits as i32);
-    let product = fma(format, x, y, 0);
+    let (product, _) = fma(format, Attribute::Even, [x, y, 0]);
     let z = neighbour(format, product ^ format.sign_bit(), random.between(-2, 2));
     [x, y, z]
 }
 
 /// Product and z stand a chosen number of digits apart.
-fn far_apart(format: Format, random: &mut Random) -> [u64; 3] {
+pub fn far_apart(format: Format, random: &mut Random) -> [u64; 3] {
     let z = finite(format, random);
     let gap = match random.below(3) {
         0 => random.between(-140, 140),

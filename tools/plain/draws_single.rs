@@ -8,9 +8,9 @@ use crate::random::Random;
 /// An operand for the root. `turn` picks the kind, so that all kinds come.
 pub fn for_root(format: Format, turn: usize, random: &mut Random) -> u64 {
     let digits = format.fraction_bits + 1;
-    // At 16 bits the range is too short for the room that the others have.
-    let most = ((highest(format) - 60) / 2).max(lowest(format) / 2 + 8);
-    let even = 2 * random.between(lowest(format) / 2, most);
+    // A square must stay in the range, which at 16 bits has room for one alone.
+    let room = if highest(format) > 60 { 60 } else { digits as i32 };
+    let even = 2 * random.between(lowest(format) / 2, (highest(format) - room) / 2);
     match turn % 8 {
         0 => any(format, random),
         1 | 2 => {

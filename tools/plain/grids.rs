@@ -141,3 +141,45 @@ fn lists(format: Format, random: &mut Random) -> Vec<Vec<Field>> {
     }
     requests
 }
+
+/// The few requests of a name with an attribute or flags that every run has.
+pub fn small_grid(operation: &Operation) -> Vec<Vec<Field>> {
+    let format = operation.format;
+    let (one, infinity, quiet) = (format.one(), format.infinity(), format.canonical_nan());
+    let (signalling, largest, least) = (infinity + 1, format.largest_finite(), 1);
+    let half = one - format.smallest_normal();
+    let minus = |magnitude: u64| magnitude | format.sign_bit();
+    let single = [0, minus(0), infinity, minus(infinity), minus(quiet | 1), signalling, minus(one)];
+    let word = |x: u64| vec![Field::Word(x)];
+    let scaled = |x: u64, n: i32| vec![Field::Word(x), Field::Signed(n)];
+    let [least_power, most_power] = [i32::MIN, i32::MAX];
+    match operation.task {
+        Task::Sqrt => single.into_iter().chain([one + 1, largest, least]).map(word).collect(),
+        Task::Floor | Task::Trunc => {
+            single.into_iter().chain([half, minus(half), minus(one + 1)]).map(word).collect()
+        }
+        Task::Scalbn => single
+            .into_iter()
+            .map(|x| scaled(x, 1))
+            .chain([scaled(largest, 1), scaled(minus(largest), most_power)])
+            .chain([scaled(least, -1), scaled(minus(least), -1), scaled(one, least_power)])
+            .collect(),
+        _ => {
+            let triples = [
+                [0, infinity, one],
+                [minus(infinity), 0, quiet],
+                [infinity, one, minus(infinity)],
+                [one, one, signalling],
+                [quiet, minus(one), infinity],
+                [one, one, minus(one)],
+                [minus(0), one, 0],
+                [minus(one), 0, minus(0)],
+                [largest, one, largest],
+                [largest, minus(largest), one],
+                [least, half, 0],
+                [minus(least), half, minus(0)],
+            ];
+            triples.iter().map(|triple| triple.map(Field::Word).to_vec()).collect()
+        }
+    }
+}

@@ -5,7 +5,10 @@ mod answers_flags;
 mod attributes;
 mod big;
 mod cases;
+mod cases_flags;
 mod commands;
+mod draws_rounded;
+mod draws_rounded_single;
 mod draws_several;
 mod draws_single;
 mod format;
@@ -14,12 +17,13 @@ mod grids;
 mod lines;
 mod operands;
 mod operations;
+mod options;
 mod random;
 mod rounding;
 mod witness;
 
 use commands::Trouble;
-use operations::{Operation, OPERATIONS};
+use options::{read_options, Wanted};
 use std::io::{BufWriter, Write};
 use std::process::ExitCode;
 
@@ -30,9 +34,14 @@ plain-program: answers and checks the operations by exact whole numbers
   check FILE|-                 check every claim
   cases --seed N --count K [--operation OP]
                                print boundary cases with their answers
+  cases --flags [--requests] --seed N --count K [--operation OP]
+                               the same under every attribute, and with flags
+  cases --flags [--requests] --all --operation OP
+                               all patterns of 16 bits
   witness --seed N --count K   hold the judge against the C library
 
-Each command has --help. Lines are those of docs/LINES.md.
+Each command has --help. Lines are those of docs/LINES.md, and those with an
+attribute or flags, which answer --help tells.
 Exit status: 0 all well, 1 something found, 2 bad usage or unreadable file.
 ";
 
@@ -72,6 +81,8 @@ disagreement, a malformed line or no claim at all, or 2 for bad usage.
 
 const CASES_HELP: &str = "\
 cases --seed N --count K [--operation OP]
+cases --flags [--requests] --seed N --count K [--operation OP]
+cases --flags [--requests] --all --operation OP
 
 Prints request lines with answers for every operation, or for OP alone: first
 a grid (every pair of operand classes, for fma in each two places and further
@@ -79,6 +90,19 @@ triples as far as K reaches; the thresholds of scalbn; both sides of every
 refusal), then K drawn boundary cases. So each operation has at least K lines.
 No request comes twice. The same seed and count give the same lines.
 N is a decimal number below 2^64, K at least 1.
+
+  --flags     the names with an attribute or flags in place of those without:
+              for each a small grid, then K drawn cases from its kinds in turn.
+              Comments at the end name the kinds and count their lines. For
+              sqrt, fma and scalbn at each width follow nine lines with the
+              attribute as a number, four of them refused. OP is one name, as
+              sqrt64.up, sqrt64.3 or floor16.flags, or what stands before the
+              point, as sqrt64. There are fewer than K where the kinds have no
+              more that was not there.
+  --requests  requests without answers; one may come twice, and none is kept
+              in mind, so K may be any number
+  --all       all 65,536 patterns; OP is a name of sqrt16, floor16 or trunc16,
+              or one of these for all its attributes
 Exit status: 0, or 2 for bad usage.
 ";
 
@@ -161,14 +185,23 @@ fn on_file(command: &str, rest: &[&str]) -> Ending {
 }
 
 fn on_seed(command: &str, rest: &[&str]) -> Ending {
-    let options = match read_options(command, rest) {
-        Ok(options) => options,
+    let wanted = match read_options(command, rest) {
+        Ok(wanted) => wanted,
         Err(what) => return Ending::Usage(what),
     };
-    let (seed, count, chosen) = options;
-    with_output(|out| match command {
-        "cases" => Ok(cases::print_cases(seed, count, &chosen, out).map(|()| true)?),
-        _ => Ok(witness::run(seed, count, out).map(|found| found == 0)?),
+    with_output(|out| match (command, wanted) {
+        ("witness", Wanted::Plain(seed, count, _)) => {
+            Ok(witness::run(seed, count, out).map(|found| found == 0)?)
+        }
+        (_, Wanted::Plain(seed, count, chosen)) => {
+            Ok(cases::print_cases(seed, count, &chosen, out).map(|()| true)?)
+        }
+        (_, Wanted::Flags { seed, count, chosen, answers }) => {
+            Ok(cases_flags::print(seed, count, &chosen, answers, out).map(|()| true)?)
+        }
+        (_, Wanted::All { chosen, answers }) => {
+            Ok(cases_flags::print_all(&chosen, answers, out).map(|()| true)?)
+        }
     })
 }
 
@@ -180,43 +213,4 @@ fn with_output(command: impl FnOnce(&mut dyn Write) -> Outcome) -> Ending {
         Ok(()) => Ending::Done(outcome),
         Err(error) => Ending::Done(outcome.and(Err(Trouble::Writing(error)))),
     }
-}
-
-/// Seed, count and the operations asked for.
-fn read_options(
-    command: &str,
-    rest: &[&str],
-) -> Result<(u64, usize, Vec<&'static Operation>), String> {
-    let (mut seed, mut count, mut chosen) = (None, None, None);
-    for pair in rest.chunks(2) {
-        let known = matches!(pair[0], "--seed" | "--count")
-            || pair[0] == "--operation" && command == "cases";
-        if !known {
-            return Err(format!("{command}: no option \"{}\"", pair[0]));
-        }
-        let [option, value] = pair else {
-            return Err(format!("{command}: {} needs a value", pair[0]));
-        };
-        let number = || {
-            let digits = value.bytes().all(|byte| byte.is_ascii_digit());
-            let read = value.parse::<u64>().ok().filter(|_| digits);
-            let wrong = || format!("{option} needs a decimal number below 2^64, not \"{value}\"");
-            read.ok_or_else(wrong)
-        };
-        match *option {
-            "--seed" => seed = Some(number()?),
-            "--count" => count = Some(number()?),
-            _ => {
-                let found = operations::find(value);
-                chosen = Some(found.ok_or_else(|| format!("no operation \"{value}\""))?);
-            }
-        }
-    }
-    let seed = seed.ok_or_else(|| format!("{command} needs --seed N"))?;
-    let count = count.ok_or_else(|| format!("{command} needs --count K"))?;
-    if count == 0 {
-        return Err("--count must be at least 1".to_string());
-    }
-    let all = || OPERATIONS.iter().collect();
-    Ok((seed, count as usize, chosen.map_or_else(all, |one| vec![one])))
 }

@@ -1,23 +1,25 @@
 // Single operands: the classes, and patterns where rounding and ranges turn.
 
+use crate::attributes::{round, Attribute, Exact};
 use crate::big::Big;
 use crate::format::Format;
 use crate::random::Random;
-use crate::rounding::nearest;
 
 /// Ten magnitudes with either sign, then quiet and signalling NaN.
 pub const CLASSES: usize = 22;
+pub const QUIET: usize = 20;
+pub const SIGNALLING: usize = 21;
 
 /// A pattern of a class; classes with more than one number give any of them.
 pub fn of_class(format: Format, class: usize, random: &mut Random) -> u64 {
     let payload = format.smallest_normal() - 1;
     let quiet_bit = format.canonical_nan() ^ format.infinity();
     let magnitude = match class % CLASSES {
-        20 => format.canonical_nan() | random.word() & payload,
-        21 => format.infinity() | random.below(quiet_bit - 1) + 1,
+        QUIET => format.canonical_nan() | random.word() & payload,
+        SIGNALLING => format.infinity() | random.below(quiet_bit - 1) + 1,
         class => of_magnitude(format, class / 2, random),
     };
-    let negative = if class >= 20 { random.coin() } else { class % 2 == 1 };
+    let negative = if class >= QUIET { random.coin() } else { class % 2 == 1 };
     signed(format, negative, magnitude)
 }
 
@@ -50,12 +52,11 @@ pub fn placed(format: Format, negative: bool, number: u64, exponent: i32) -> u64
 }
 
 pub fn placed_big(format: Format, negative: bool, number: &Big, exponent: i32) -> u64 {
-    let shift = exponent + format.unit_shift() as i32;
-    let magnitude = match shift >= 0 {
-        true => nearest(format, &number.shl(shift as u32), 0),
-        false => nearest(format, number, shift.unsigned_abs()),
-    };
-    signed(format, negative, magnitude)
+    if number.is_zero() {
+        return signed(format, negative, 0);
+    }
+    let value = Exact { negative, number: number.clone(), exponent: exponent as i64 };
+    round(format, Attribute::Even, &value).0
 }
 
 /// The finite pattern this many places further from zero, as far as they go.
@@ -75,12 +76,12 @@ pub fn last_place(format: Format, pattern: u64) -> i32 {
     format.exponent_field(pattern).max(1) as i32 - 1 - format.unit_shift() as i32
 }
 
-/// The largest exponent a leading digit can have: 1023 or 127.
+/// The largest exponent a leading digit can have: 1023, 127 or 15.
 pub fn highest(format: Format) -> i32 {
     format.bias() as i32
 }
 
-/// The exponent of the smallest unit: -1074 or -149.
+/// The exponent of the smallest unit: -1074, -149 or -24.
 pub fn lowest(format: Format) -> i32 {
     -(format.unit_shift() as i32)
 }
