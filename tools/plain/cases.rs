@@ -3,7 +3,6 @@
 use crate::answers::judge;
 use crate::draws_several::{for_fma, for_list, for_reduction, for_remainder};
 use crate::draws_single::{for_integer, for_root, for_scaling};
-use crate::forms::forms;
 use crate::grids::{grid, triple, TRIPLES};
 use crate::lines::{write_fields, write_request};
 use crate::operands::CLASSES;
@@ -22,8 +21,7 @@ pub struct Requests {
 
 impl Requests {
     pub fn new(operation: &'static Operation, seed: u64) -> Requests {
-        let mut all = OPERATIONS.iter().chain(forms());
-        let place = all.position(|one| one.name == operation.name);
+        let place = OPERATIONS.iter().position(|one| one.name == operation.name);
         let mut random = Random::new(seed, place.map_or(0, |place| place as u64 + 1));
         let grid = grid(operation, &mut random).into_iter();
         Requests { operation, random, grid, turn: 0 }

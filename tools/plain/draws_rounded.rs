@@ -123,9 +123,10 @@ fn some_steps(format: Format, random: &mut Random) -> i64 {
 fn least_normal(format: Format, random: &mut Random) -> [u64; 3] {
     let steps = some_steps(format, random);
     let steps = if random.coin() { steps } else { -steps };
-    let eighths = random.between(-12, 12) as i64;
+    // To nearest tininess turns at -2 and the answer at -4; else it is -4 and 0.
+    let eighths = if random.coin() { random.between(-5, 1) } else { random.between(-12, 12) };
     let place = lowest(format) - 3;
-    about(format, random, format.smallest_normal(), (steps, eighths), place)
+    about(format, random, format.smallest_normal(), (steps, eighths as i64), place)
 }
 
 /// Eighths of a gap around the largest finite number and the next above.
@@ -147,8 +148,11 @@ fn largest(format: Format, random: &mut Random) -> [u64; 3] {
             [x ^ flip, format.one(), part(random, 20) ^ flip]
         }
         _ => {
-            let (steps, eighths) = (some_steps(format, random), random.between(-12, 20) as i64);
-            about(format, random, format.largest_finite(), (steps, eighths), place)
+            // To nearest overflow begins at 4, toward zero at 8, outward above 0.
+            let turn = random.pick(&[0, 4, 8]);
+            let eighths = if random.coin() { turn } else { random.between(-12, 20) };
+            let steps = some_steps(format, random);
+            about(format, random, format.largest_finite(), (steps, eighths as i64), place)
         }
     }
 }

@@ -4,6 +4,7 @@ use crate::answers::{self, judge};
 use crate::attributes::Attribute;
 use crate::big::Big;
 use crate::cases::Requests;
+use crate::cases_flags::Drawing;
 use crate::format::Format;
 use crate::forms::forms;
 use crate::lines::{write_fields, write_request};
@@ -221,6 +222,16 @@ fn division_holds(random: &mut Random) -> bool {
     })
 }
 
+/// The requests of an operation; where it tells flags, from its kinds in turn.
+fn requests(operation: &'static Operation, seed: u64) -> Box<dyn FnMut() -> Vec<Field>> {
+    if operation.form == Form::Plain {
+        let mut requests = Requests::new(operation, seed);
+        return Box::new(move || requests.next());
+    }
+    let mut drawing = Drawing::new(operation, seed);
+    Box::new(move || drawing.next().1)
+}
+
 fn run_operation(
     operation: &'static Operation,
     seed: u64,
@@ -228,10 +239,10 @@ fn run_operation(
     out: &mut dyn Write,
 ) -> io::Result<usize> {
     let start = Instant::now();
-    let mut requests = Requests::new(operation, seed);
+    let mut next = requests(operation, seed);
     let mut disagreements = 0;
     for _ in 0..count {
-        let operands = requests.next();
+        let operands = next();
         let judged = judge(operation, &operands);
         if let Some(other) = disagreement(operation, &operands, &judged) {
             disagreements += 1;
