@@ -1,4 +1,4 @@
-// The requests of the names with an attribute or flags, by kinds, and the command that prints them.
+// The requests of the names with an attribute or flags, by kinds, and the printing of them.
 
 use crate::answers::judge;
 use crate::draws_rounded::FMA_KINDS;
@@ -15,7 +15,7 @@ use std::io::{self, Write};
 /// A name whose lines are wanted, and the attribute where that is a number.
 pub type Choice = (&'static Operation, Option<u32>);
 
-/// The attributes that a name has, then numbers that no attribute has.
+/// The numbers of the attributes, then some that no attribute has.
 const NUMBERS: [u32; 9] = [0, 1, 2, 3, 4, 5, 7, 10, u32::MAX];
 
 /// How often in a row a kind may give what was there before it counts as empty.
@@ -152,7 +152,7 @@ fn with_number(number: Option<u32>, operands: Vec<Field>) -> Vec<Field> {
     number.map(Field::Unsigned).into_iter().chain(operands).collect()
 }
 
-/// The names that `--operation` means: one, or all that begin so.
+/// The names that are wanted, none with a number of its own.
 pub fn choices(of: impl Fn(&Operation) -> bool) -> Vec<Choice> {
     forms().iter().filter(|form| of(form)).map(|form| (form, None)).collect()
 }

@@ -145,41 +145,42 @@ fn lists(format: Format, random: &mut Random) -> Vec<Vec<Field>> {
 /// The few requests of a name with an attribute or flags that every run has.
 pub fn small_grid(operation: &Operation) -> Vec<Vec<Field>> {
     let format = operation.format;
-    let (one, infinity, quiet) = (format.one(), format.infinity(), format.canonical_nan());
-    let (signalling, largest, least) = (infinity + 1, format.largest_finite(), 1);
-    let half = one - format.smallest_normal();
+    let (one, infinity) = (format.one(), format.infinity());
+    let (largest, half) = (format.largest_finite(), one - format.smallest_normal());
     let minus = |magnitude: u64| magnitude | format.sign_bit();
-    let single = [0, minus(0), infinity, minus(infinity), minus(quiet | 1), signalling, minus(one)];
+    let (quiet, signalling) = (minus(format.canonical_nan() | 1), infinity + 1);
+    let single = [0, minus(0), infinity, minus(infinity), quiet, signalling, minus(one)];
     let word = |x: u64| vec![Field::Word(x)];
-    let scaled = |x: u64, n: i32| vec![Field::Word(x), Field::Signed(n)];
-    let [least_power, most_power] = [i32::MIN, i32::MAX];
+    let scaled = |(x, n): (u64, i32)| vec![Field::Word(x), Field::Signed(n)];
     match operation.task {
-        Task::Sqrt => single.into_iter().chain([one + 1, largest, least]).map(word).collect(),
-        Task::Floor | Task::Trunc => {
-            single.into_iter().chain([half, minus(half), minus(one + 1)]).map(word).collect()
+        Task::Sqrt => single.into_iter().chain([one + 1, largest, 1]).map(word).collect(),
+        Task::Scalbn => {
+            let over = [(largest, 1), (minus(largest), i32::MAX)];
+            let under = [(1, -1), (minus(1), -1), (one, i32::MIN)];
+            let first = single.into_iter().map(|x| (x, 1));
+            first.chain(over).chain(under).map(scaled).collect()
         }
-        Task::Scalbn => single
-            .into_iter()
-            .map(|x| scaled(x, 1))
-            .chain([scaled(largest, 1), scaled(minus(largest), most_power)])
-            .chain([scaled(least, -1), scaled(minus(least), -1), scaled(one, least_power)])
-            .collect(),
-        _ => {
-            let triples = [
-                [0, infinity, one],
-                [minus(infinity), 0, quiet],
-                [infinity, one, minus(infinity)],
-                [one, one, signalling],
-                [quiet, minus(one), infinity],
-                [one, one, minus(one)],
-                [minus(0), one, 0],
-                [minus(one), 0, minus(0)],
-                [largest, one, largest],
-                [largest, minus(largest), one],
-                [least, half, 0],
-                [minus(least), half, minus(0)],
-            ];
-            triples.iter().map(|triple| triple.map(Field::Word).to_vec()).collect()
-        }
+        Task::Fma => small_triples(format).map(|triple| triple.map(Field::Word).to_vec()).to_vec(),
+        _ => single.into_iter().chain([half, minus(half), minus(one + 1)]).map(word).collect(),
     }
+}
+
+fn small_triples(format: Format) -> [[u64; 3]; 12] {
+    let (one, infinity, quiet) = (format.one(), format.infinity(), format.canonical_nan());
+    let (largest, half) = (format.largest_finite(), one - format.smallest_normal());
+    let minus = |magnitude: u64| magnitude | format.sign_bit();
+    [
+        [0, infinity, one],
+        [minus(infinity), 0, quiet],
+        [infinity, one, minus(infinity)],
+        [one, one, infinity + 1],
+        [quiet, minus(one), infinity],
+        [one, one, minus(one)],
+        [minus(0), one, 0],
+        [minus(one), 0, minus(0)],
+        [largest, one, largest],
+        [largest, minus(largest), one],
+        [1, half, 0],
+        [minus(1), half, minus(0)],
+    ]
 }

@@ -128,19 +128,14 @@ impl Operation {
     }
 
     pub fn answer_kinds(&self) -> &'static [Kind] {
-        match self.form {
-            Form::Plain => (),
-            Form::Flags => return &[Kind::Word, Kind::Flags],
-            Form::Attribute(_) | Form::Numbered => {
-                return &[Kind::Unsigned, Kind::Word, Kind::Flags]
-            }
-        }
-        match self.task {
-            Task::Sqrt | Task::Floor | Task::Trunc => &[Kind::Word, Kind::Status],
-            Task::Scalbn | Task::Fma | Task::Fmod => &[Kind::Word],
-            Task::Remquo => &[Kind::Word, Kind::Signed],
-            Task::Reduce => &[Kind::Unsigned, Kind::Word],
-            Task::List => &[Kind::Unsigned, Kind::Words],
+        match (self.form, self.task) {
+            (Form::Flags, _) => &[Kind::Word, Kind::Flags],
+            (Form::Attribute(_) | Form::Numbered, _) => &[Kind::Unsigned, Kind::Word, Kind::Flags],
+            (_, Task::Sqrt | Task::Floor | Task::Trunc) => &[Kind::Word, Kind::Status],
+            (_, Task::Scalbn | Task::Fma | Task::Fmod) => &[Kind::Word],
+            (_, Task::Remquo) => &[Kind::Word, Kind::Signed],
+            (_, Task::Reduce) => &[Kind::Unsigned, Kind::Word],
+            (_, Task::List) => &[Kind::Unsigned, Kind::Words],
         }
     }
 }

@@ -163,9 +163,6 @@ fn search_differs(operation: &Operation, operands: &[Field], judged: &[Field]) -
 /// Nothing when both agree, else what the other side says.
 fn disagreement(operation: &Operation, operands: &[Field], judged: &[Field]) -> Option<String> {
     let format = operation.format;
-    if operation.form != Form::Plain {
-        return search_differs(operation, operands, judged);
-    }
     match (operands, judged) {
         ([Field::Word(x), Field::Unsigned(shift), Field::Word(y)], _) => {
             let (refusal, value) = reduce_by_doubling(format.width, *x, *shift, *y);
@@ -244,7 +241,11 @@ fn run_operation(
     for _ in 0..count {
         let operands = next();
         let judged = judge(operation, &operands);
-        if let Some(other) = disagreement(operation, &operands, &judged) {
+        let found = match operation.form {
+            Form::Plain => disagreement(operation, &operands, &judged),
+            _ => search_differs(operation, &operands, &judged),
+        };
+        if let Some(other) = found {
             disagreements += 1;
             let request = write_request(operation, &operands);
             let own = write_fields(operation, &judged);
