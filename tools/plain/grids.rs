@@ -2,7 +2,7 @@
 
 use crate::draws_several::{far_tail_above, longest_gap};
 use crate::format::Format;
-use crate::operands::{of_class, signed, CLASSES};
+use crate::operands::{highest, of_class, placed, signed, CLASSES};
 use crate::operations::{Field, Operation, Task};
 use crate::random::Random;
 
@@ -157,10 +157,16 @@ pub fn small_grid(operation: &Operation) -> Vec<Vec<Field>> {
         Task::Scalbn => {
             let over = [(largest, 1), (minus(largest), i32::MAX)];
             let under = [(1, -1), (minus(1), -1), (one, i32::MIN)];
+            // Half a smallest unit below the least normal number.
+            let (ones, bias) = (one | (format.smallest_normal() - 1), format.bias() as i32);
+            let tiny = [(ones, -bias), (minus(ones), -bias)];
             let first = single.into_iter().map(|x| (x, 1));
-            first.chain(over).chain(under).map(scaled).collect()
+            first.chain(over).chain(under).chain(tiny).map(scaled).collect()
         }
-        Task::Fma => small_triples(format).map(|triple| triple.map(Field::Word).to_vec()).to_vec(),
+        Task::Fma => {
+            let triples = small_triples(format).into_iter().chain(turning_triples(format));
+            triples.map(|triple| triple.map(Field::Word).to_vec()).collect()
+        }
         _ => single.into_iter().chain([half, minus(half), minus(one + 1)]).map(word).collect(),
     }
 }
@@ -183,4 +189,18 @@ fn small_triples(format: Format) -> [[u64; 3]; 12] {
         [1, half, 0],
         [minus(1), half, minus(0)],
     ]
+}
+
+/// Where tininess, overflow and the answer turn under one attribute or other:
+/// eighths of the smallest unit below the least normal number, and of the gap
+/// above the largest.
+fn turning_triples(format: Format) -> Vec<[u64; 3]> {
+    let digits = format.fraction_bits as i32;
+    let gap = placed(format, false, 1, highest(format) - digits);
+    let eighth = |number| placed(format, false, number, -3);
+    let below = [1, 2, 3, 4].map(|k| [1 | format.sign_bit(), eighth(k), format.smallest_normal()]);
+    let above = [3, 4, 8].map(|k| [gap, eighth(k), format.largest_finite()]);
+    let triples = below.into_iter().chain(above);
+    let flip = format.sign_bit();
+    triples.flat_map(|[x, y, z]| [[x, y, z], [x ^ flip, y, z ^ flip]]).collect()
 }
