@@ -61,9 +61,13 @@ impl Drawing {
 
     /// The kind and the operands without the number of an attribute.
     pub fn next(&mut self) -> (usize, Vec<Field>) {
-        let kind = self.turn % self.kinds;
-        self.turn += 1;
+        let kind = self.next_kind();
         (kind, self.of_kind(kind))
+    }
+
+    fn next_kind(&mut self) -> usize {
+        self.turn += 1;
+        (self.turn - 1) % self.kinds
     }
 
     fn of_kind(&mut self, kind: usize) -> Vec<Field> {
@@ -216,24 +220,23 @@ fn drawn(
     tally: &mut Tally,
 ) -> io::Result<()> {
     let mut drawing = Drawing::new(operation, seed);
-    let (mut wanted, mut empty) = (count, 0);
-    while wanted > 0 && empty < drawing.kinds {
-        let (kind, mut operands) = drawing.next();
-        let mut tries = 1;
-        while !printer.print(operation, &with_number(number, operands))? {
-            if tries == TRIES {
-                break;
-            }
-            tries += 1;
-            operands = drawing.of_kind(kind);
-        }
-        if tries == TRIES {
-            empty += 1;
+    let (mut wanted, mut is_empty) = (count, vec![false; drawing.kinds]);
+    while wanted > 0 && is_empty.contains(&false) {
+        let kind = drawing.next_kind();
+        if is_empty[kind] {
             continue;
         }
-        empty = 0;
-        wanted -= 1;
-        tally.count(operation.task, kind, number);
+        let (mut is_new, mut tries) = (false, 0);
+        while !is_new && tries < TRIES {
+            let operands = with_number(number, drawing.of_kind(kind));
+            is_new = printer.print(operation, &operands)?;
+            tries += 1;
+        }
+        is_empty[kind] = !is_new;
+        if is_new {
+            wanted -= 1;
+            tally.count(operation.task, kind, number);
+        }
     }
     Ok(())
 }
