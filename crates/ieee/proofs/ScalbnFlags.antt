@@ -6,13 +6,12 @@ use mathlib.Core.Bool.{Bool, true, false}
 use native.Mathlib.Omega.{arith}
 use lib.Pow.{pow-pos}
 use lib.IntN.{ℤ, pos, negsuc}
-use Rattle.algebra.proofs.Products.{order}
 use Rattle.ieee.specs.Format.{Format, Fair, inf, units}
 use Rattle.ieee.specs.Pattern.{minus, magnitude, Kind, nan, infinite, finite, kind}
 use Rattle.ieee.specs.Exact.{ratio}
 use Rattle.ieee.specs.Round.{Way, Attribute, ties-to-even, toward-positive, toward-negative, wayOf}
 use Rattle.ieee.specs.Rule.{to-even}
-use Rattle.ieee.specs.Flags.{none, nan-flags, signals, raisedBy, raised}
+use Rattle.ieee.specs.Flags.{none, nan-flags, signals, judged, raisedBy, raised}
 use Rattle.ieee.specs.FlagsRule.{FlagsRule, Clean}
 use Rattle.ieee.specs.FlagRows.{ScalbnFlagRows}
 use Rattle.ieee.specs.Band.{Band}
@@ -20,7 +19,7 @@ use Rattle.ieee.specs.Scalbn.{scaled, reach, clamp, scalbnIn, scalbnFlag
 use Rattle.ieee.proofs.Units.{units-lt}
 use Rattle.ieee.proofs.Patterns.{finite-is}
 use Rattle.ieee.proofs.Exacts.{sign-own}
-use Rattle.ieee.proofs.Scalbns.{past-all, below-all, scaled-exact, scalbn-answer}
+use Rattle.ieee.proofs.Scalbns.{past-clamp, past-all, below-all, scaled-exact, scalbn-answer}
 use Rattle.ieee.proofs.Bands.{band}
 use Rattle.ieee.proofs.Raised.{raised-rule, nearest-overflow, raised-of}
 use Rattle.ieee.proofs.Cleans.{none-clean, either-clean, raised-clean}
@@ -30,26 +29,18 @@ module _ (f : Format) (g : Fair f) where
   -- ---- far enough, up or down, all values raise alike
   up-flags : (w : Way) (u n : ℕ) → raisedBy f w (ratio (u * 2 ^ min n (reach f)) 1) ≡ raisedBy f w (ratio (u * 2 ^ n) 1)
   up-flags w zero n = ap (λ c. raisedBy f w (ratio c 1)) (omega arith)
-  up-flags w (suc u) n =
-      order n (reach f)
-      (λ h. let e : min n (reach f) ≡ n = omega arith in rw e)
-      (λ h. let e : min n (reach f) ≡ reach f = omega arith in
-      rw e (huge (reach f) (omega arith) ∙ sym (huge n (omega arith))))
+  up-flags w (suc u) n = past-clamp (λ n. raisedBy f w (ratio (suc u * 2 ^ n) 1)) (reach f) (λ n h. huge (reach f) (omega arith) ∙ sym (huge n h)) n
     where
-      huge : (n : ℕ) → reach f ≤ n → raisedBy f w (ratio (suc u * 2 ^ n) 1) ≡ record { invalid = false; division-by-zero = false; overflow = true; underflow = false; inexact = true }
+      huge : (n : ℕ) → reach f ≤ n → raisedBy f w (ratio (suc u * 2 ^ n) 1) ≡ judged true false true
       huge n h = huge-flags f g w (ratio (suc u * 2 ^ n) 1) (omega arith) (omega (arith, past-all f g (suc u) n (omega arith) h))
 
   down-flags : (w : Way) (u n : ℕ) → u < units f (inf f) → raisedBy f w (ratio u (2 ^ suc (min n (reach f)))) ≡ raisedBy f w (ratio u (2 ^ suc n))
   down-flags w zero n l =
       zero-flags f g w (ratio 0 (2 ^ suc (min n (reach f)))) (pow-pos (suc (min n (reach f)))) (omega arith)
       ∙ sym (zero-flags f g w (ratio 0 (2 ^ suc n)) (pow-pos (suc n)) (omega arith))
-  down-flags w (suc u) n l =
-      order n (reach f)
-      (λ h. let e : min n (reach f) ≡ n = omega arith in rw e)
-      (λ h. let e : min n (reach f) ≡ reach f = omega arith in
-      rw e (small (reach f) (omega arith) ∙ sym (small n (omega arith))))
+  down-flags w (suc u) n l = past-clamp (λ n. raisedBy f w (ratio (suc u) (2 ^ suc n))) (reach f) (λ n h. small (reach f) (omega arith) ∙ sym (small n h)) n
     where
-      small : (n : ℕ) → reach f ≤ n → raisedBy f w (ratio (suc u) (2 ^ suc n)) ≡ record { invalid = false; division-by-zero = false; overflow = false; underflow = true; inexact = true }
+      small : (n : ℕ) → reach f ≤ n → raisedBy f w (ratio (suc u) (2 ^ suc n)) ≡ judged false true true
       small n h = small-flags f g w (ratio (suc u) (2 ^ suc n)) (pow-pos (suc n)) (λ z. omega arith) (omega (arith, below-all f g (suc u) n l h))
 
   -- the clamped rule is the rule

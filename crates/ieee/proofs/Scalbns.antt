@@ -49,6 +49,13 @@ tiny-alike f w n d e p q = same-side f w (ratio n d) (ratio n e) (λ j l. beside
     beside : (s : ℕ) → Beside (ratio n d) (ratio n e) s
     beside s = record { above = (over s d e p, over s e d q); below = (under s d e q, under s e d p) }
 
+-- what is one thing from b on may be asked at n clamped to b
+pub past-clamp : {A : Type 0} (G : ℕ → A) (b : ℕ) → ((n : ℕ) → b ≤ n → G b ≡ G n) → (n : ℕ) → G (min n b) ≡ G n
+past-clamp G b h n =
+    order n b
+    (λ l. let e : min n b ≡ n = omega arith in ap G e)
+    (λ l. let e : min n b ≡ b = omega arith in ap G e ∙ h n (omega arith))
+
 module _ (f : Format) (g : Fair f) where
   reach-past : units f (inf f) < 2 ^ reach f
   reach-past = subst (λ u. u < 2 ^ reach f) (sym (units-inf f g)) (pow-lt (omega (arith, pow-mono (g .expo-two))))
@@ -62,17 +69,13 @@ module _ (f : Format) (g : Fair f) where
   up-alike : (w : Way) (u n : ℕ) → rounded f w (ratio (u * 2 ^ min n (reach f)) 1) ≡ rounded f w (ratio (u * 2 ^ n) 1)
   up-alike w zero n = ap (λ c. rounded f w (ratio c 1)) (omega arith)
   up-alike w (suc u) n =
-      order n (reach f)
-      (λ h. let e : min n (reach f) ≡ n = omega arith in rw e)
-      (λ h. let e : min n (reach f) ≡ reach f = omega arith in
-      rw e (huge-alike f w (suc u * 2 ^ reach f) (suc u * 2 ^ n) (past-all (suc u) (reach f) (omega arith) (omega arith)) (past-all (suc u) n (omega arith) (omega arith))))
+      past-clamp (λ n. rounded f w (ratio (suc u * 2 ^ n) 1)) (reach f)
+      (λ n h. huge-alike f w (suc u * 2 ^ reach f) (suc u * 2 ^ n) (past-all (suc u) (reach f) (omega arith) (omega arith)) (past-all (suc u) n (omega arith) h)) n
 
   down-alike : (w : Way) (u n : ℕ) → u < units f (inf f) → rounded f w (ratio u (2 ^ suc (min n (reach f)))) ≡ rounded f w (ratio u (2 ^ suc n))
   down-alike w u n l =
-      order n (reach f)
-      (λ h. let e : min n (reach f) ≡ n = omega arith in rw e)
-      (λ h. let e : min n (reach f) ≡ reach f = omega arith in
-      rw e (tiny-alike f w u (2 ^ suc (reach f)) (2 ^ suc n) (below-all u (reach f) l (omega arith)) (below-all u n l (omega arith))))
+      past-clamp (λ n. rounded f w (ratio u (2 ^ suc n))) (reach f)
+      (λ n h. tiny-alike f w u (2 ^ suc (reach f)) (2 ^ suc n) (below-all u (reach f) l (omega arith)) (below-all u n l h)) n
 
   -- the clamped rule is the rule
   pub clamp-alike : (a : Attribute) (s : Bool) (u : ℕ) (n : ℤ) → u < units f (inf f) → answer f a s (scaled s u (clamp (reach f) n)) ≡ answer f a s (scaled s u n)
