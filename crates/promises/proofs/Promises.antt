@@ -246,7 +246,7 @@ pub flags-are-clean : (f : Format) → Fair f → (a : Attribute) (x y z : ℕ) 
     → Clean (sqrtFlagsIn f a x) × Clean (fmaFlagsIn f a x y z) × Clean (scalbnFlagsIn f a x n) × Clean (wholeFlagsIn f a x)
 flags-are-clean f g a x y z n = (sqrt-clean f g a x, fma-clean f g a x y z, scalbn-clean f g a x n, whole-clean f a x)
 
--- a root never overflows; nor does it underflow, in a format with one exponent more below 1 than a fair one must have, as all of the standard's have
+-- a root never overflows; nor does it underflow, in a format with one exponent more below 1 than a fair one must have, as b16, b32 and b64 have
 pub sqrt-never-overflows : (f : Format) → Fair f → (a : Attribute) (x : ℕ) → sqrtFlagsIn f a x .overflow ≡ false
 sqrt-never-overflows = sqrt-no-overflow
 
