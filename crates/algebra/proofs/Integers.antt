@@ -1,11 +1,11 @@
 -- Integers for `omega`: z is `up z - dn z`, one of which is 0, so that each fact on integers is one on whole numbers, which `omega` reads.
 -- A goal: `eqZ a b (omega (arith, addZ a b))`. A hypothesis: `omega (arith, leZ-fact a b h)`. Assumes nothing.
-use mathlib.Core.Path.{_≡_, refl, sym, ap, subst}
+use mathlib.Core.Path.{_≡_, refl, sym, ap, _∙_, subst}
 use mathlib.Core.Bool.{Bool, true, false, not, cond}
-use Prim.Native.Nat.{ℕ, zero, suc, _+_, _-_, _^_, _≤_, _<_, min}
+use Prim.Native.Nat.{ℕ, zero, suc, _+_, _-_, _*_, _^_, _≤_, _<_, min}
 use native.Mathlib.Omega.{arith}
 use lib.Dec.{T, ltb, ltb→lt, nltb→le, lt→ltb, le→leb, leb→le}
-use lib.IntN.{ℤ, pos, negsuc, negℤ, natAbs, subℕ, _+ℤ_, _-ℤ_}
+use lib.IntN.{ℤ, pos, negsuc, negℤ, natAbs, subℕ, _+ℤ_, _-ℤ_, _*ℤ_}
 use lib.Signed.{mag, leZ, ltZ, nonNeg}
 use mir.Syntax.{Width}
 use mir.Val.{SFits, hbits}
@@ -36,6 +36,10 @@ pub negZ : (a : ℤ) → (up (negℤ a) ≡ dn a) × (dn (negℤ a) ≡ up a)
 negZ (pos zero) = (refl, refl)
 negZ (pos (suc n)) = (refl, refl)
 negZ (negsuc n) = (refl, refl)
+
+pub timesZ : (a : ℤ) (d : ℕ) → (up (a *ℤ pos d) ≡ up a * d) × (dn (a *ℤ pos d) ≡ dn a * d)
+timesZ (pos n) d = (refl, omega arith)
+timesZ (negsuc n) d = let (p, q) = negZ (pos (suc n * d)) in (p ∙ omega arith, q)
 
 pub subZ : (a b : ℤ) → up (a -ℤ b) + dn a + up b ≡ dn (a -ℤ b) + up a + dn b
 subZ a b = omega (arith, addZ a (negℤ b), negZ b)

@@ -7,7 +7,7 @@ use lib.Pow.{pow-pos}
 use lib.IntN.{ℤ, pos, negsuc, _*ℤ_}
 use Rattle.algebra.proofs.Products.{mul-eq-cancel}
 use Rattle.algebra.proofs.Roots.{sq-le}
-use Rattle.algebra.proofs.Integers.{up, dn, leZ-fact, eqZ, eqZ-fact}
+use Rattle.algebra.proofs.Integers.{up, dn, timesZ, leZ-fact, eqZ, eqZ-fact}
 use Rattle.ieee.specs.Format.{Format, Fair}
 use Rattle.ieee.specs.Pattern.{value}
 use Rattle.ieee.specs.Exact.{Value, dyadic, surd}
@@ -17,7 +17,6 @@ use Rattle.ieee.specs.Flags.{raised}
 use Rattle.ieee.specs.FlagsRule.{Equals}
 use Rattle.ieee.specs.Band.{Band}
 use Rattle.ieee.proofs.Decide.{is-false}
-use Rattle.ieee.proofs.Wholes.{timesZ}
 use Rattle.ieee.proofs.Attributes.{answer-met}
 use Rattle.ieee.proofs.Raised.{raised-rule, inexact-reads, inexact-alike}
 

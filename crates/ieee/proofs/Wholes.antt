@@ -6,12 +6,12 @@ use native.Mathlib.Nat.{one-mul}
 use native.Mathlib.Omega.{arith}
 use lib.Dec.{eqb, lt→ltb, le→leb}
 use lib.Pow.{pow-pos}
-use lib.IntN.{ℤ, pos, negsuc, negℤ, _+ℤ_, _*ℤ_}
+use lib.IntN.{ℤ, pos, negℤ, _+ℤ_, _*ℤ_}
 use lib.Signed.{_≤ℤ_, _<ℤ_}
 use borrow.Author.Tests.{eq-eqb, ne-eqb}
 use Rattle.algebra.proofs.Products.{times, mul-lt-cancel}
 use Rattle.algebra.proofs.Quotients.{div-mod, div-is}
-use Rattle.algebra.proofs.Integers.{up, dn, addZ, negZ, eqZ, leZ-fact, ltZ-fact, leZ-of, ltZ-of}
+use Rattle.algebra.proofs.Integers.{up, dn, addZ, negZ, timesZ, eqZ, leZ-fact, ltZ-fact, leZ-of, ltZ-of}
 use Rattle.ieee.specs.Format.{Format, Fair, low, inf, units}
 use Rattle.ieee.specs.Pattern.{Pattern, minus, magnitude, signed, Kind, nan, infinite, finite, kind, withSign, value}
 use Rattle.ieee.specs.Round.{longer, Attribute, toward-zero, toward-negative, wayOf}
@@ -72,10 +72,6 @@ trunc-only f x r q a b =
     same-pattern f r q (a .pattern) (b .pattern) (a .sign ∙ sym (b .sign)) u
 
 -- ---- floor: signed numbers, by their magnitudes
-pub timesZ : (a : ℤ) (d : ℕ) → (up (a *ℤ pos d) ≡ up a * d) × (dn (a *ℤ pos d) ≡ dn a * d)
-timesZ (pos n) d = (refl, omega arith)
-timesZ (negsuc n) d = let (p, q) = negZ (pos (suc n * d)) in (p ∙ omega arith, q)
-
 pub longer-sides : (n d : ℕ) → 0 < d → (n ≤ whole longer n d * d) × (whole longer n d * d < n + d)
 longer-sides n d p =
     let m = div-mod n d p in
