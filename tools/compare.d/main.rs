@@ -36,6 +36,12 @@ mod tally;
 #[path = "../plain/answers.rs"]
 mod answers;
 #[allow(dead_code)]
+#[path = "../plain/answers_flags.rs"]
+mod answers_flags;
+#[allow(dead_code)]
+#[path = "../plain/attributes.rs"]
+mod attributes;
+#[allow(dead_code)]
 #[path = "../plain/big.rs"]
 mod big;
 #[allow(dead_code)]
@@ -50,6 +56,9 @@ mod draws_single;
 #[allow(dead_code)]
 #[path = "../plain/format.rs"]
 mod format;
+#[allow(dead_code)]
+#[path = "../plain/forms.rs"]
+mod forms;
 #[allow(dead_code)]
 #[path = "../plain/grids.rs"]
 mod grids;

@@ -70,8 +70,8 @@ impl Request {
                 }
                 Field::Signed(number) => request.number = (*number).into(),
                 Field::Unsigned(number) => request.number = (*number).into(),
-                Field::Words(_) | Field::Status(_) => {
-                    unreachable!("no operand is a list or a status")
+                Field::Words(_) | Field::Status(_) | Field::Flags(_) => {
+                    unreachable!("no operand is a list, a status or flags")
                 }
             }
         }
@@ -84,7 +84,7 @@ impl Request {
             Kind::Word => words.next().map(|word| Field::Word(*word)),
             Kind::Signed => Some(Field::Signed(self.number as i32)),
             Kind::Unsigned => Some(Field::Unsigned(self.number as u32)),
-            Kind::Words | Kind::Status => None,
+            Kind::Words | Kind::Status | Kind::Flags => None,
         };
         operation.operand_kinds().iter().filter_map(field).collect()
     }
@@ -120,7 +120,7 @@ impl Answer {
                 Field::Signed(number) => answer.number = number.into(),
                 Field::Unsigned(number) => answer.number = number.into(),
                 Field::Status(status) => answer.number = number_of(status),
-                Field::Words(_) => unreachable!("no answer is a list"),
+                Field::Words(_) | Field::Flags(_) => unreachable!("no answer is a list or flags"),
             }
         }
         answer
@@ -132,7 +132,7 @@ impl Answer {
             Kind::Signed => Some(Field::Signed(self.number as i32)),
             Kind::Unsigned => Some(Field::Unsigned(self.number as u32)),
             Kind::Status => Some(Field::Status(status_of(self.number))),
-            Kind::Words => None,
+            Kind::Words | Kind::Flags => None,
         };
         operation.answer_kinds().iter().filter_map(field).collect()
     }
