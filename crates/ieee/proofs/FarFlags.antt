@@ -14,7 +14,7 @@ use Rattle.ieee.proofs.Sides.{Sound, over-zero, over-down, under-up, ap
 use Rattle.ieee.proofs.Rule.{inf-pos}
 use Rattle.ieee.proofs.Exacts.{rounded-zero}
 use Rattle.ieee.proofs.Wider.{magnified-beside, magnified-sound, Reaches}
-use Rattle.ieee.proofs.Verdicts.{three, largest-normal, suc-largest, before-twice, PastLargest, overflows-reads, tiny-reads, not-reaches}
+use Rattle.ieee.proofs.Verdicts.{three, largest-normal, suc-largest, beforeTwice, PastLargest, overflows-reads, tiny-reads, not-reaches}
 use Rattle.ieee.proofs.Raised.{Same, differs-reads, same-not-overflows}
 
 -- ---- values far above and far below all numbers
@@ -34,12 +34,12 @@ module _ (f : Format) (g : Fair f) (w : Way) (x : Exact) (s : Sound x) where
       let h : PastLargest f g w x = over-reaches f w x s (largest f) (over-down x (omega (arith, ap (units f) (suc-largest f g))) o) in
       judged-as f w x
       (is-true (overflows-reads f g 1 (omega arith) w x s) h)
-      (is-false (tiny-reads f g 1 (omega arith) w x s) (λ t. t .1 (over-reaches f w (magnified x 2) (magnified-sound x 2 s) (before-twice f g) (doubled x o))))
+      (is-false (tiny-reads f g 1 (omega arith) w x s) (λ t. t .1 (over-reaches f w (magnified x 2) (magnified-sound x 2 s) (beforeTwice f g) (doubled x o))))
       (is-true (differs-reads f w x) (λ e. same-not-overflows f g w x s (rounded f w x) e h))
     where
-      doubled : (x : Exact) → Over x (2 * units f (inf f)) → Over (magnified x 2) (2 * units f (suc (before-twice f g)))
+      doubled : (x : Exact) → Over x (2 * units f (inf f)) → Over (magnified x 2) (2 * units f (suc (beforeTwice f g)))
       doubled x o =
-          over-down (magnified x 2) (omega (arith, units-mono f {i = suc (before-twice f g)} {j = inf f} (omega (arith, three f g, pow-pos (f .frac)))))
+          over-down (magnified x 2) (omega (arith, units-mono f {i = suc (beforeTwice f g)} {j = inf f} (omega (arith, three f g, pow-pos (f .frac)))))
           (magnified-beside x (2 * units f (inf f)) 2 (omega arith) .0 .1 o)
 
   pub small-flags : (Under x 0 → ⊥) → Under x 1 → raisedBy f w x ≡ judged false true true
@@ -48,8 +48,8 @@ module _ (f : Format) (g : Fair f) (w : Way) (x : Exact) (s : Sound x) where
       (is-false (overflows-reads f g 1 (omega arith) w x s) (not-reaches f g w x s (largest f) (under-up x (omega (arith, units-lt f {i = 0} {j = largest f} (omega (arith, largest-normal f g, pow-pos (f .frac))))) u)))
       (is-true (tiny-reads f g 1 (omega arith) w x s) (
         n,
-        not-reaches f g w (magnified x 2) (magnified-sound x 2 s) (before-twice f g)
-            (under-up (magnified x 2) (omega (arith, units-lt f {i = 0} {j = before-twice f g} (omega (arith, pow-pos (f .frac))))) (magnified-beside x 1 2 (omega arith) .1 .1 u)),
+        not-reaches f g w (magnified x 2) (magnified-sound x 2 s) (beforeTwice f g)
+            (under-up (magnified x 2) (omega (arith, units-lt f {i = 0} {j = beforeTwice f g} (omega (arith, pow-pos (f .frac))))) (magnified-beside x 1 2 (omega arith) .1 .1 u)),
       ))
       (is-true (differs-reads f w x) (differ (rounded f w x)))
     where

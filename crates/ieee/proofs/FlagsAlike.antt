@@ -13,7 +13,7 @@ use Rattle.ieee.proofs.Decide.{alike}
 use Rattle.ieee.proofs.Sides.{Sound}
 use Rattle.ieee.proofs.Alike.{Beside, Places, same-side}
 use Rattle.ieee.proofs.Wider.{magnified-beside, Reaches}
-use Rattle.ieee.proofs.Verdicts.{three, suc-largest, before-twice, before-units, twice-units, normal-units, subnormal-units, after-subnormal, overflows-reads, tiny-reads}
+use Rattle.ieee.proofs.Verdicts.{three, suc-largest, beforeTwice, before-units, twice-units, normal-units, subnormal-units, after-subnormal, overflows-reads, tiny-reads}
 use Rattle.ieee.proofs.Raised.{Same, differs-reads}
 use Rattle.ieee.proofs.Locations.{quarters}
 
@@ -63,14 +63,14 @@ module _ (f : Format) (g : Fair f) (w : Way) (x y : Exact) (s : Sound x) (t : So
       reaches-alike f w x y (largest f) (l .at-number (largest f) (omega arith)) (l .at-middle (largest f) (omega arith)) (l .at-number (suc (largest f)) (omega arith))
 
   -- the three places about twice the least normal number
-  least-alike : Reaches f w (magnified x 2) (before-twice f g) ↔ Reaches f w (magnified y 2) (before-twice f g)
+  least-alike : Reaches f w (magnified x 2) (beforeTwice f g) ↔ Reaches f w (magnified y 2) (beforeTwice f g)
   least-alike =
       let p = pow-pos (f .frac) in
-      let b : middle f (h - 1) * 2 ≡ 2 * units f (before-twice f g) = omega (arith, before-units f g, subnormal-units f g, after-subnormal f g) in
-      let q : quarters f (h - 1) ≡ middle f (before-twice f g) = omega (arith, before-units f g, twice-units f g, subnormal-units f g, after-subnormal f g) in
-      let n : 2 * units f h * 2 ≡ 2 * units f (suc (before-twice f g)) = omega (arith, twice-units f g, normal-units f g) in
+      let b : middle f (h - 1) * 2 ≡ 2 * units f (beforeTwice f g) = omega (arith, before-units f g, subnormal-units f g, after-subnormal f g) in
+      let q : quarters f (h - 1) ≡ middle f (beforeTwice f g) = omega (arith, before-units f g, twice-units f g, subnormal-units f g, after-subnormal f g) in
+      let n : 2 * units f h * 2 ≡ 2 * units f (suc (beforeTwice f g)) = omega (arith, twice-units f g, normal-units f g) in
       let m = three f g in
-      reaches-alike f w (magnified x 2) (magnified y 2) (before-twice f g)
+      reaches-alike f w (magnified x 2) (magnified y 2) (beforeTwice f g)
       (subst (Beside (magnified x 2) (magnified y 2)) b (twice x y (middle f (h - 1)) (l .at-middle (h - 1) (omega arith))))
       (subst (Beside (magnified x 2) (magnified y 2)) q (l .at-quarters))
       (subst (Beside (magnified x 2) (magnified y 2)) n (twice x y (2 * units f h) (l .at-number h (omega arith))))

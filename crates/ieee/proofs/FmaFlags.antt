@@ -1,30 +1,28 @@
 -- The flags of fma: of the exact x y + z rounded once, and every other row. Assumes nothing.
 use Prim.Native.Nat.{ℕ, zero, suc}
 use mathlib.Core.Path.{_≡_, refl, sym, ap, _∙_, subst₂}
-use mathlib.Core.Logic.{_↔_}
 use mathlib.Core.Bool.{Bool, true, false, _||_, cond}
 use native.Mathlib.Omega.{arith}
 use borrow.Author.Tests.{eq-eqb, ne-eqb}
-use Rattle.ieee.specs.Format.{Format, Fair, inf}
-use Rattle.ieee.specs.Pattern.{minus, magnitude, unlike, Kind, nan, infinite, finite, kind}
-use Rattle.ieee.specs.Round.{Attribute, ties-to-even, toward-positive, toward-negative}
-use Rattle.ieee.specs.Rule.{to-even}
-use Rattle.ieee.specs.Flags.{none, only-invalid, signals, raised}
+use Rattle.ieee.specs.Format.{Format, Fair}
+use Rattle.ieee.specs.Pattern.{minus, unlike, Kind, nan, infinite, finite, kind}
+use Rattle.ieee.specs.Round.{Attribute, toward-positive, toward-negative}
+use Rattle.ieee.specs.Flags.{none, onlyInvalid, signals, raised}
 use Rattle.ieee.specs.FlagsRule.{FlagsRule, Clean}
 use Rattle.ieee.specs.FlagRows.{FmaFlagRows}
 use Rattle.ieee.specs.Band.{Band}
 use Rattle.ieee.specs.Fma.{times, clashes, signalled, InfiniteProduct, of-both, of-first, of-second, sumOf, sumSign, plusFlagsBy, fmaIn, fmaFlagsIn, exactFma, zeroSign}
 use Rattle.ieee.proofs.Fmas.{sum-exact, fma-answer, times-infinite}
 use Rattle.ieee.proofs.Bands.{band}
-use Rattle.ieee.proofs.Raised.{raised-rule, nearest-overflow}
+use Rattle.ieee.proofs.Raised.{raised-rule}
 use Rattle.ieee.proofs.Cleans.{none-clean, either-clean, raised-clean}
 use Rattle.ieee.proofs.Signals.{finite-silent, infinite-silent}
 
 module _ (f : Format) where
   flags-by : (a : Attribute) (x y z : ℕ) {b : Bool} {k l h : Kind} → signalled f x y z ≡ b → kind f x ≡ k → kind f y ≡ l → kind f z ≡ h
-      → fmaFlagsIn f a x y z ≡ cond (b || clashes k l) only-invalid (plusFlagsBy f a (unlike (minus f x) (minus f y)) (times k l) (minus f z) h)
+      → fmaFlagsIn f a x y z ≡ cond (b || clashes k l) onlyInvalid (plusFlagsBy f a (unlike (minus f x) (minus f y)) (times k l) (minus f z) h)
   unfolding fmaFlagsIn
-  flags-by a x y z e p q r = λ i. cond (e i || clashes (p i) (q i)) only-invalid (plusFlagsBy f a (unlike (minus f x) (minus f y)) (times (p i) (q i)) (minus f z) (r i))
+  flags-by a x y z e p q r = λ i. cond (e i || clashes (p i) (q i)) onlyInvalid (plusFlagsBy f a (unlike (minus f x) (minus f y)) (times (p i) (q i)) (minus f z) (r i))
 
   silent : (x y z : ℕ) → signals f x ≡ false → signals f y ≡ false → signals f z ≡ false → signalled f x y z ≡ false
   silent x y z p q r = λ i. p i || q i || r i
@@ -51,21 +49,21 @@ module _ (f : Format) (a : Attribute) (x y z : ℕ) where
   by-product : {p h : Kind} → signalled f x y z ≡ false → clashes (kind f x) (kind f y) ≡ false → times (kind f x) (kind f y) ≡ p → kind f z ≡ h
       → fmaFlagsIn f a x y z ≡ plusFlagsBy f a s p (minus f z) h
   unfolding fmaFlagsIn
-  by-product d c p r = λ i. cond (d i || c i) only-invalid (plusFlagsBy f a s (p i) (minus f z) (r i))
+  by-product d c p r = λ i. cond (d i || c i) onlyInvalid (plusFlagsBy f a s (p i) (minus f z) (r i))
 
-  clash : {k l : Kind} → kind f x ≡ k → kind f y ≡ l → clashes k l ≡ true → fmaFlagsIn f a x y z ≡ only-invalid
+  clash : {k l : Kind} → kind f x ≡ k → kind f y ≡ l → clashes k l ≡ true → fmaFlagsIn f a x y z ≡ onlyInvalid
   clash {k} {l} p q c =
       flags-by f a x y z refl p q refl
-      ∙ ap (λ b. cond (signalled f x y z || b) only-invalid (plusFlagsBy f a s (times k l) (minus f z) (kind f z))) c
+      ∙ ap (λ b. cond (signalled f x y z || b) onlyInvalid (plusFlagsBy f a s (times k l) (minus f z) (kind f z))) c
       ∙ either (signalled f x y z)
     where
-      either : (b : Bool) → cond (b || true) only-invalid (plusFlagsBy f a s (times k l) (minus f z) (kind f z)) ≡ only-invalid
+      either : (b : Bool) → cond (b || true) onlyInvalid (plusFlagsBy f a s (times k l) (minus f z) (kind f z)) ≡ onlyInvalid
       either true = refl
       either false = refl
 
-  signals-so : signalled f x y z ≡ true → fmaFlagsIn f a x y z ≡ only-invalid
+  signals-so : signalled f x y z ≡ true → fmaFlagsIn f a x y z ≡ onlyInvalid
   unfolding fmaFlagsIn
-  signals-so h = ap (λ b. cond (b || clashes (kind f x) (kind f y)) only-invalid (plusFlagsBy f a s (times (kind f x) (kind f y)) (minus f z) (kind f z))) h
+  signals-so h = ap (λ b. cond (b || clashes (kind f x) (kind f y)) onlyInvalid (plusFlagsBy f a s (times (kind f x) (kind f y)) (minus f z) (kind f z))) h
 
   -- a NaN meets no clash, nor does any product but that of zero and infinity
   nan-second : (k : Kind) → (clashes k nan ≡ false) × (times k nan ≡ nan)
@@ -110,11 +108,11 @@ module _ (f : Format) (a : Attribute) (x y z : ℕ) where
         signalling-third = λ h. signals-so ((λ i. signals f x || signals f y || h i) ∙ third (signals f x) (signals f y));
         zero-by-infinity = λ p q. clash p q (eq-eqb 0 0 refl);
         infinity-by-zero = λ p q. clash p q (eq-eqb 0 0 refl);
-        opposite-infinities = λ i r u. of-infinite i (infinite-silent f z r) r ∙ ap (λ b. cond b only-invalid none) u;
+        opposite-infinities = λ i r u. of-infinite i (infinite-silent f z r) r ∙ ap (λ b. cond b onlyInvalid none) u;
         quiet-first = λ h d. by-product (silent f x y z (d .0) (d .1) (d .2)) (ap (λ k. clashes k (kind f y)) h) (ap (λ k. times k (kind f y)) h) refl;
         quiet-second = λ h d. by-product (silent f x y z (d .0) (d .1) (d .2)) (ap (clashes (kind f x)) h ∙ nan-second (kind f x) .0) (ap (times (kind f x)) h ∙ nan-second (kind f x) .1) refl;
         quiet-third = λ h d i j. by-product (silent f x y z (d .0) (d .1) (d .2)) (no-clash (kind f x) (kind f y) refl refl i j) refl h ∙ nan-z (minus f z) (times (kind f x) (kind f y));
-        like-infinities = λ i r u. of-infinite i (infinite-silent f z r) r ∙ ap (λ b. cond b only-invalid none) u;
+        like-infinities = λ i r u. of-infinite i (infinite-silent f z r) r ∙ ap (λ b. cond b onlyInvalid none) u;
         infinite-product = λ w i r. of-infinite i (finite-silent f z w r) r;
         infinite-third = λ u v p q r. flags-by f a x y z (silent f x y z (finite-silent f x u p) (finite-silent f y v q) (infinite-silent f z r)) p q r;
       }
@@ -148,11 +146,6 @@ fma-clean f g a x y z =
         raised-clean f g a (sumSign a s t) (sumOf f s p t w)
 
 module _ (f : Format) (g : Fair f) (x y z u v w : ℕ) (p : kind f x ≡ finite u) (q : kind f y ≡ finite v) (r : kind f z ≡ finite w) where
-  -- to the nearest even, overflow is raised exactly when the answer is an infinity
-  pub fma-overflow : (fmaFlagsIn f ties-to-even x y z .overflow ≡ true) ↔ (magnitude f (fmaIn f ties-to-even x y z) ≡ inf f)
-  fma-overflow =
-      rw (fma-flags f ties-to-even x y z u v w p q r, fma-answer f ties-to-even x y z u v w p q r) (nearest-overflow f g to-even (zeroSign f ties-to-even x y z) (exactFma f x y z))
-
   -- down and up, the exact value lies between
   pub fma-band : Band f (exactFma f x y z) (fmaIn f toward-negative x y z) (fmaIn f toward-positive x y z) (fmaFlagsIn f toward-negative x y z) (fmaFlagsIn f toward-positive x y z)
   fma-band =

@@ -9,14 +9,14 @@ use Rattle.algebra.proofs.Products.{order}
 use Rattle.ieee.specs.Format.{Format, Fair, inf, units}
 use Rattle.ieee.specs.Exact.{Exact, Over, Under, magnified}
 use Rattle.ieee.specs.Round.{Way, even, away, shorter, longer, middle, passes, rounded}
-use Rattle.ieee.specs.Flags.{wider, finer, widely, least-normal, overflows, tiny}
+use Rattle.ieee.specs.Flags.{wider, finer, widely, leastNormal, overflows, tiny}
 use Rattle.ieee.proofs.Units.{units-zero, units-lt}
 use Rattle.ieee.proofs.Decide.{Reads, fails, split}
 use Rattle.ieee.proofs.Sides.{Sound, over-down, under-up, under-reads}
 use Rattle.ieee.proofs.Past.{Past, passes-reads, rounded-le, rounded-past, rounded-not-past}
 use Rattle.ieee.proofs.Exacts.{rounded-zero}
 use Rattle.ieee.proofs.Wider.{magnified-beside, magnified-sound, at-least, Reaches, passes-reaches, fit, units-shift}
-use Rattle.ieee.proofs.Verdicts.{reads-as, three, suc-largest, as-reaches, even-by, half, before-twice, before-units, twice-units, subnormal-units, after-subnormal, PastLargest, overflows-reads, tiny-reads, reached, tiny-as, infinity-overflows}
+use Rattle.ieee.proofs.Verdicts.{reads-as, three, suc-largest, as-reaches, even-by, half, beforeTwice, before-units, twice-units, subnormal-units, after-subnormal, PastLargest, overflows-reads, tiny-reads, reached, tiny-as, infinity-overflows}
 
 module _ (f : Format) (g : Fair f) (k : ℕ) (l : 1 ≤ k) (w : Way) (x : Exact) (s : Sound x) where
   abbrev e : Format
@@ -64,29 +64,29 @@ module _ (f : Format) (g : Fair f) (k : ℕ) (l : 1 ≤ k) (w : Way) (x : Exact)
     reaches-as longer = let o = under-as (2 * units f i) (2 * units e (i + d * h)) (omega (arith, at)) in (λ p v. p (o .1 v), λ p v. p (o .0 v))
 
   -- ---- what is not tiny is answered by a normal number
-  half-way : Over (magnified x 2) (middle f (before-twice f g)) → Over x (middle f (h - 1))
+  half-way : Over (magnified x 2) (middle f (beforeTwice f g)) → Over x (middle f (h - 1))
   half-way o =
       magnified-beside x (middle f (h - 1)) 2 (omega arith) .0 .0
       (over-down (magnified x 2) (omega (arith, subnormal-units f g, after-subnormal f g, before-units f g, twice-units f g, pow-pos (f .frac))) o)
 
-  normal-reached : (w : Way) → Reaches f w (magnified x 2) (before-twice f g) → Reaches f w x (h - 1)
+  normal-reached : (w : Way) → Reaches f w (magnified x 2) (beforeTwice f g) → Reaches f w x (h - 1)
   normal-reached even r = (half-way (r .0), λ _. omega (arith, half f g, pow-pos (f .frac)))
   normal-reached away r = half-way r
   normal-reached shorter r = magnified-beside x (2 * units f (suc (h - 1))) 2 (omega arith) .0 .0 (over-down (magnified x 2) (omega (arith, after-subnormal f g, twice-units f g)) r)
   normal-reached longer r =
       λ u. r (under-up (magnified x 2) (omega (arith, subnormal-units f g, before-units f g, pow-pos (f .frac))) (magnified-beside x (2 * units f (h - 1)) 2 (omega arith) .1 .1 u))
 
-  normal-reads : Reads (Reaches f w (magnified x 2) (before-twice f g)) (passes f w (magnified x 2) (before-twice f g))
-  normal-reads = reads-as (passes-reaches f w (magnified x 2) (before-twice f g) (λ e. omega (arith, three f g, pow-pos (f .frac)))) (passes-reads f w (magnified x 2) (before-twice f g))
+  normal-reads : Reads (Reaches f w (magnified x 2) (beforeTwice f g)) (passes f w (magnified x 2) (beforeTwice f g))
+  normal-reads = reads-as (passes-reaches f w (magnified x 2) (beforeTwice f g) (λ e. omega (arith, three f g, pow-pos (f .frac)))) (passes-reads f w (magnified x 2) (beforeTwice f g))
 
-  normal-answer : Reaches f w (magnified x 2) (before-twice f g) → h ≤ m
+  normal-answer : Reaches f w (magnified x 2) (beforeTwice f g) → h ≤ m
   normal-answer r =
       let p = pow-pos (f .frac) in
       let q = three f g in
       let c = passes-reaches f w x (h - 1) (λ e. omega arith) .1 (normal-reached w r) in
       omega (arith, at-least f w x s (suc (h - 1)) .1 (omega arith, c))
 
-  module _ (no : PastLargest f g w x → ⊥) (n : h ≤ m) (reaches : Reaches f w (magnified x 2) (before-twice f g)) where
+  module _ (no : PastLargest f g w x → ⊥) (n : h ≤ m) (reaches : Reaches f w (magnified x 2) (beforeTwice f g)) where
     below-inf : m < inf f
     below-inf = by-contra (suc m) (inf f) (λ q. no (infinity-overflows f g w x s (both-ways m (inf f) (rounded-le f w x) (omega arith))))
 
@@ -99,7 +99,7 @@ module _ (f : Format) (g : Fair f) (k : ℕ) (l : 1 ≤ k) (w : Way) (x : Exact)
 
     least : h + d * h ≤ r
     least =
-        order (suc (units e r)) (units f (least-normal f) * 2 ^ d)
+        order (suc (units e r)) (units f (leastNormal f) * 2 ^ d)
         (λ q. absurd (tiny-as f g k l w x s .0 q reaches))
         (λ q. by-contra (h + d * h) r (λ c. omega (arith, units-lt e {i = r} {j = h + d * h} c, units-shift f g k l h (omega arith))))
 

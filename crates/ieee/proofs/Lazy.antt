@@ -7,7 +7,7 @@ use native.Mathlib.Omega.{arith}
 use lib.IntN.{pos, negsuc, natAbs}
 use lib.ListN.{getD}
 use Rattle.ieee.specs.Format.{b64, canonical}
-use Rattle.ieee.specs.Flags.{none, only-inexact, wordOf}
+use Rattle.ieee.specs.Flags.{none, onlyInexact, wordOf}
 use Rattle.ieee.specs.Sqrt.{sqrtOf, sqrtFlags}
 use Rattle.ieee.specs.Fma.{fmaOf, fmaFlags}
 use Rattle.ieee.specs.Scalbn.{scalbnOf, scalbnFlags}
@@ -54,11 +54,11 @@ pub record Lazy : Type 0 where
   pub scalbn-no-flag : scalbnFlags b64 1 (negsuc 0) ≡ none → ⊥
   pub floor-no-flag : floorFlags b64 half ≡ none → ⊥
   pub trunc-no-flag : truncFlags b64 half ≡ none → ⊥
-  pub sqrt-always-inexact : sqrtFlags b64 four ≡ only-inexact true → ⊥
-  pub fma-always-inexact : fmaFlags b64 one one one ≡ only-inexact true → ⊥
-  pub scalbn-always-inexact : scalbnFlags b64 one (pos 0) ≡ only-inexact true → ⊥
-  pub floor-always-inexact : floorFlags b64 one ≡ only-inexact true → ⊥
-  pub trunc-always-inexact : truncFlags b64 one ≡ only-inexact true → ⊥
+  pub sqrt-always-inexact : sqrtFlags b64 four ≡ onlyInexact true → ⊥
+  pub fma-always-inexact : fmaFlags b64 one one one ≡ onlyInexact true → ⊥
+  pub scalbn-always-inexact : scalbnFlags b64 one (pos 0) ≡ onlyInexact true → ⊥
+  pub floor-always-inexact : floorFlags b64 one ≡ onlyInexact true → ⊥
+  pub trunc-always-inexact : truncFlags b64 one ≡ onlyInexact true → ⊥
 
 pub lazy : Lazy
 unfolding sqrtOf fmaOf fmodOf remquoOf quotientOf scalbnOf floorOf truncOf listOf reduceOf sqrtFlags fmaFlags scalbnFlags floorFlags truncFlags

@@ -9,14 +9,14 @@ use Rattle.algebra.proofs.Products.{order}
 use Rattle.ieee.specs.Format.{Format, Fair, inf, units}
 use Rattle.ieee.specs.Exact.{Exact, Over, Under, over, under, magnified}
 use Rattle.ieee.specs.Round.{Way, even, away, shorter, longer, middle, rounded}
-use Rattle.ieee.specs.Flags.{Flags, largest, least-normal, judged, raisedBy}
+use Rattle.ieee.specs.Flags.{Flags, largest, leastNormal, judged, raisedBy}
 use Rattle.ieee.proofs.Units.{units-rise, units-mono, units-lt}
 use Rattle.ieee.proofs.Decide.{Reads, so, not-so, is-true, is-false, split, alike, leb-reads, eqb-reads, and-reads, not-reads}
 use Rattle.ieee.proofs.Sides.{Sound, over-reads, under-reads, over-down, under-up, under-not-over, over-not-under, apart}
 use Rattle.ieee.proofs.Rule.{inf-even}
 use Rattle.ieee.proofs.Local.{From}
 use Rattle.ieee.proofs.Wider.{magnified-beside, magnified-sound, Reaches}
-use Rattle.ieee.proofs.Verdicts.{reads-as, three, suc-largest, before-twice, before-units, twice-units, normal-units, subnormal-units, PastLargest, overflows-reads, tiny-reads, not-reaches}
+use Rattle.ieee.proofs.Verdicts.{reads-as, three, suc-largest, beforeTwice, before-units, twice-units, normal-units, subnormal-units, PastLargest, overflows-reads, tiny-reads, not-reaches}
 use Rattle.ieee.proofs.Raised.{Same, same-rounded, differs-reads}
 use Rattle.ieee.proofs.FarFlags.{over-reaches}
 
@@ -99,24 +99,24 @@ module _ (f : Format) (m : ℕ) (x : Exact) (s : Sound x) where
 
 -- ---- the flags of a magnitude by the way, the lower neighbour m and the place p
 -- the place from which on the largest finite number is exceeded
-abbrev pub over-from : Way → ℕ
-over-from even = 2
-over-from away = 2
-over-from shorter = 5
-over-from longer = 1
+abbrev pub overFrom : Way → ℕ
+overFrom even = 2
+overFrom away = 2
+overFrom shorter = 5
+overFrom longer = 1
 
 -- the place from which on the largest subnormal number is left
-abbrev pub normal-from : Way → ℕ
-normal-from even = 4
-normal-from away = 4
-normal-from shorter = 5
-normal-from longer = 3
+abbrev pub normalFrom : Way → ℕ
+normalFrom even = 4
+normalFrom away = 4
+normalFrom shorter = 5
+normalFrom longer = 3
 
 abbrev pub overAt : Format → Way → ℕ → ℕ → Bool
-overAt f w m p = eqb m (largest f) && leb (over-from w) p
+overAt f w m p = eqb m (largest f) && leb (overFrom w) p
 
 abbrev pub tinyAt : Format → Way → ℕ → ℕ → Bool
-tinyAt f w m p = ltb (suc m) (least-normal f) || (eqb (suc m) (least-normal f) && not (leb (normal-from w) p))
+tinyAt f w m p = ltb (suc m) (leastNormal f) || (eqb (suc m) (leastNormal f) && not (leb (normalFrom w) p))
 
 abbrev pub flagsAt : Format → Way → ℕ → ℕ → Flags
 flagsAt f w m p = judged (overAt f w m p) (tinyAt f w m p) (leb 1 p)
@@ -128,7 +128,7 @@ module _ (f : Format) (g : Fair f) (w : Way) (x : Exact) (s : Sound x) (m p : �
       let u = under-not-over x (2 * units f (suc m)) (b .high l) in
       not-reaches f g w x s j (under-up x (omega (arith, units-mono f {i = suc m} {j = j} k)) u) r
 
-  reaches-here : (w : Way) → m ≡ largest f → Reads (Reaches f w x m) (leb (over-from w) p)
+  reaches-here : (w : Way) → m ≡ largest f → Reads (Reaches f w x m) (leb (overFrom w) p)
   reaches-here even e = reads-as (λ o. (o, λ u. omega (arith, inf-even f g, suc-largest f g)), λ r. r .0) (t .two)
   reaches-here away e = t .two
   reaches-here shorter e = t .five
@@ -151,37 +151,37 @@ module _ (f : Format) (g : Fair f) (w : Way) (x : Exact) (s : Sound x) (m p : �
   next-normal e = ap (units f) e ∙ normal-units f g
 
   -- at the largest subnormal number
-  left-here : (w : Way) → suc m ≡ h → Reads (Reaches f w (magnified x 2) (before-twice f g)) (leb (normal-from w) p)
+  left-here : (w : Way) → suc m ≡ h → Reads (Reaches f w (magnified x 2) (beforeTwice f g)) (leb (normalFrom w) p)
   left-here even e =
-      let a : quarters f m ≡ middle f (before-twice f g) = omega (arith, before-units f g, twice-units f g, here-units e, next-normal e, pow-pos (f .frac)) in
-      let c : suc (before-twice f g) % 2 ≡ 0 = omega (arith, pow-pos (f .frac)) in
+      let a : quarters f m ≡ middle f (beforeTwice f g) = omega (arith, before-units f g, twice-units f g, here-units e, next-normal e, pow-pos (f .frac)) in
+      let c : suc (beforeTwice f g) % 2 ≡ 0 = omega (arith, pow-pos (f .frac)) in
       reads-as (λ o. (subst (Over (magnified x 2)) a o, λ _. c), λ r. subst (Over (magnified x 2)) (sym a) (r .0)) (t .four)
   left-here away e =
-      let a : quarters f m ≡ middle f (before-twice f g) = omega (arith, before-units f g, twice-units f g, here-units e, next-normal e, pow-pos (f .frac)) in
+      let a : quarters f m ≡ middle f (beforeTwice f g) = omega (arith, before-units f g, twice-units f g, here-units e, next-normal e, pow-pos (f .frac)) in
       reads-as (λ o. subst (Over (magnified x 2)) a o, λ r. subst (Over (magnified x 2)) (sym a) r) (t .four)
   left-here shorter e =
-      let a : 2 * units f (suc m) * 2 ≡ 2 * units f (suc (before-twice f g)) = omega (arith, twice-units f g, next-normal e) in
+      let a : 2 * units f (suc m) * 2 ≡ 2 * units f (suc (beforeTwice f g)) = omega (arith, twice-units f g, next-normal e) in
       let (to, from) = magnified-beside x (2 * units f (suc m)) 2 (omega arith) .0 in
       reads-as (λ o. subst (Over (magnified x 2)) a (from o), λ r. to (subst (Over (magnified x 2)) (sym a) r)) (t .five)
   left-here longer e =
-      let a : middle f m * 2 ≡ 2 * units f (before-twice f g) = omega (arith, before-units f g, here-units e, next-normal e, pow-pos (f .frac)) in
+      let a : middle f m * 2 ≡ 2 * units f (beforeTwice f g) = omega (arith, before-units f g, here-units e, next-normal e, pow-pos (f .frac)) in
       let (to, from) = magnified-beside x (middle f m) 2 (omega arith) .1 in
       reads-as (λ n u. n (to (subst (Under (magnified x 2)) (sym a) u)), λ n u. n (subst (Under (magnified x 2)) a (from u))) (t .three)
 
-  below-here : suc m < h → Reaches f w (magnified x 2) (before-twice f g) → ⊥
+  below-here : suc m < h → Reaches f w (magnified x 2) (beforeTwice f g) → ⊥
   below-here l =
       let c = units-lt f {i = suc m} {j = h} l in
       let u = under-not-over x (2 * units f (suc m)) (b .high (omega (arith, three f g))) in
-      not-reaches f g w (magnified x 2) (magnified-sound x 2 s) (before-twice f g)
+      not-reaches f g w (magnified x 2) (magnified-sound x 2 s) (beforeTwice f g)
       (under-up (magnified x 2) (omega (arith, normal-units f g, before-units f g)) (magnified-beside x (2 * units f (suc m)) 2 (omega arith) .1 .1 u))
 
-  above-here : h < suc m → Reaches f w (magnified x 2) (before-twice f g)
+  above-here : h < suc m → Reaches f w (magnified x 2) (beforeTwice f g)
   above-here l =
       let c = units-mono f {i = h} {j = m} (omega arith) in
-      over-reaches f w (magnified x 2) (magnified-sound x 2 s) (before-twice f g)
+      over-reaches f w (magnified x 2) (magnified-sound x 2 s) (beforeTwice f g)
       (over-down (magnified x 2) (omega (arith, normal-units f g, twice-units f g)) (magnified-beside x (2 * units f m) 2 (omega arith) .0 .1 (b .low)))
 
-  tiny-here : Reads (Reaches f w (magnified x 2) (before-twice f g) → ⊥) (tinyAt f w m p)
+  tiny-here : Reads (Reaches f w (magnified x 2) (beforeTwice f g) → ⊥) (tinyAt f w m p)
   tiny-here =
       order (suc (suc m)) h
       (λ l. rw (is-true (leb-reads (suc (suc m)) h) l) (so (below-here l)))

@@ -141,8 +141,6 @@ module _ (f : Format) (g : Fair f) (a : Attribute) (s : Bool) (v : Value) where
         no-division = refl;
         exact-when = (λ e. split exactly-reads (λ h. h) (λ n. absurd (true≢false (sym (is-true inexact-reads n) ∙ e))), λ h. is-false inexact-reads (λ n. n h));
         exact-none = exact-raises-none;
-        overflow-inexact = λ h. is-true inexact-reads (overflow-differs (holds overflow-reads h));
-        underflow-inexact = λ h. is-true inexact-reads (holds underflow-reads h .1);
         overflow-gives = λ h. overflow-answer (holds overflow-reads h);
         infinity-overflow = λ e. is-true overflow-reads (infinity-overflows f g w (absolute v) (sound v) (sym answer-magnitude ∙ e));
       }

@@ -9,13 +9,13 @@ use Rattle.ieee.specs.Flags.{Flags, none}
 use Rattle.ieee.specs.Sqrt.{sqrtIn, sqrtFlagsIn}
 use Rattle.ieee.specs.Fma.{fmaIn, fmaFlagsIn}
 use Rattle.ieee.specs.Scalbn.{scalbnIn, scalbnFlagsIn}
-use Rattle.ieee.specs.Rounded.{done, attributes, under, Gives, sqrtRounded, fmaRounded, scalbnRounded, ByNumber}
+use Rattle.ieee.specs.Rounded.{answered, attributes, numbered, Gives, sqrtRounded, fmaRounded, scalbnRounded, ByNumber}
 
-by-number : (R : Attribute → ℕ) (F : Attribute → Flags) → ByNumber R F (λ n. under attributes n (λ a. done (R a) (F a)))
+by-number : (R : Attribute → ℕ) (F : Attribute → Flags) → ByNumber R F (λ n. numbered attributes n (λ a. answered (R a) (F a)))
 by-number R F =
     record { nearest-even = (refl, refl, refl); to-zero = (refl, refl, refl); down = (refl, refl, refl); up = (refl, refl, refl); nearest-away = (refl, refl, refl); other = other }
   where
-    other : (n : ℕ) → 5 ≤ n → Gives (under attributes n (λ a. done (R a) (F a))) 10 0 none
+    other : (n : ℕ) → 5 ≤ n → Gives (numbered attributes n (λ a. answered (R a) (F a))) 10 0 none
     other (suc (suc (suc (suc (suc n))))) l = (refl, refl, refl)
     other zero l = absurd (omega arith)
     other (suc zero) l = absurd (omega arith)

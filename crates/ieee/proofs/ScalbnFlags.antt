@@ -1,17 +1,15 @@
 -- The flags of scalbn: of the exact x times 2 ^ n rounded once, for every n, and every other row. Assumes nothing.
 use Prim.Native.Nat.{ℕ, zero, suc, _*_, _^_, _≤_, _<_, min}
 use mathlib.Core.Path.{_≡_, sym, ap, _∙_, subst₂}
-use mathlib.Core.Logic.{_↔_}
 use mathlib.Core.Bool.{Bool, true, false}
 use native.Mathlib.Omega.{arith}
 use lib.Pow.{pow-pos}
 use lib.IntN.{ℤ, pos, negsuc}
 use Rattle.ieee.specs.Format.{Format, Fair, inf, units}
-use Rattle.ieee.specs.Pattern.{minus, magnitude, Kind, nan, infinite, finite, kind}
+use Rattle.ieee.specs.Pattern.{minus, Kind, nan, infinite, finite, kind}
 use Rattle.ieee.specs.Exact.{ratio}
-use Rattle.ieee.specs.Round.{Way, Attribute, ties-to-even, toward-positive, toward-negative, wayOf}
-use Rattle.ieee.specs.Rule.{to-even}
-use Rattle.ieee.specs.Flags.{none, nan-flags, signals, judged, raisedBy, raised}
+use Rattle.ieee.specs.Round.{Way, Attribute, toward-positive, toward-negative, wayOf}
+use Rattle.ieee.specs.Flags.{none, nanFlags, signals, judged, raisedBy, raised}
 use Rattle.ieee.specs.FlagsRule.{FlagsRule, Clean}
 use Rattle.ieee.specs.FlagRows.{ScalbnFlagRows}
 use Rattle.ieee.specs.Band.{Band}
@@ -21,7 +19,7 @@ use Rattle.ieee.proofs.Patterns.{finite-is}
 use Rattle.ieee.proofs.Exacts.{sign-own}
 use Rattle.ieee.proofs.Scalbns.{past-clamp, past-all, below-all, scaled-exact, scalbn-answer}
 use Rattle.ieee.proofs.Bands.{band}
-use Rattle.ieee.proofs.Raised.{raised-rule, nearest-overflow, raised-of}
+use Rattle.ieee.proofs.Raised.{raised-rule, raised-of}
 use Rattle.ieee.proofs.Cleans.{none-clean, either-clean, raised-clean}
 use Rattle.ieee.proofs.FarFlags.{huge-flags, small-flags, zero-flags}
 
@@ -71,8 +69,8 @@ pub scalbn-flag-rows : (f : Format) (a : Attribute) (x : ℕ) (n : ℤ) → Scal
 unfolding scalbnFlagsIn scalbnFlagsBy
 scalbn-flag-rows f a x n =
     record {
-      of-signalling = λ h s. ap (scalbnFlagsBy f a x n) h ∙ ap nan-flags s;
-      of-quiet = λ h s. ap (scalbnFlagsBy f a x n) h ∙ ap nan-flags s;
+      of-signalling = λ h s. ap (scalbnFlagsBy f a x n) h ∙ ap nanFlags s;
+      of-quiet = λ h s. ap (scalbnFlagsBy f a x n) h ∙ ap nanFlags s;
       of-infinity = λ h. ap (scalbnFlagsBy f a x n) h;
     }
 
@@ -87,11 +85,6 @@ scalbn-clean f g a x n = go (kind f x)
         raised-clean f g a (minus f x) (scaled (minus f x) u (clamp (reach f) n))
 
 module _ (f : Format) (g : Fair f) (x u : ℕ) (n : ℤ) (h : kind f x ≡ finite u) where
-  -- to the nearest even, overflow is raised exactly when the answer is an infinity
-  pub scalbn-overflow : (scalbnFlagsIn f ties-to-even x n .overflow ≡ true) ↔ (magnitude f (scalbnIn f ties-to-even x n) ≡ inf f)
-  scalbn-overflow =
-      rw (scalbn-flags f g ties-to-even x u n h, scalbn-answer f g ties-to-even x u n h) (nearest-overflow f g to-even (minus f x) (exactScalbn f x n))
-
   -- down and up, the exact value lies between
   pub scalbn-band : Band f (exactScalbn f x n) (scalbnIn f toward-negative x n) (scalbnIn f toward-positive x n) (scalbnFlagsIn f toward-negative x n) (scalbnFlagsIn f toward-positive x n)
   scalbn-band =

@@ -1,7 +1,8 @@
 -- Signalling NaNs by their patterns. Assumes nothing.
 use Prim.Native.Nat.{ℕ, suc, _+_, _-_, _%_, _^_, _≤_, _<_}
 use mathlib.Core.Path.{_≡_, sym, ap, _∙_}
-use mathlib.Core.Bool.{false, _&&_}
+use mathlib.Core.Logic.{_↔_}
+use mathlib.Core.Bool.{true, false, _&&_}
 use native.Mathlib.Omega.{arith}
 use native.Mathlib.Nat.{mod-lt}
 use lib.Pow.{pow-pos, mod-mod-pow}
@@ -11,7 +12,7 @@ use Rattle.algebra.proofs.Quotients.{mod-is}
 use Rattle.ieee.specs.Format.{Format, Fair, top, inf, canonical}
 use Rattle.ieee.specs.Pattern.{magnitude, fraction, infinite, finite, kind}
 use Rattle.ieee.specs.Flags.{signals}
-use Rattle.ieee.proofs.Decide.{Reads, is-false, leb-reads, and-reads}
+use Rattle.ieee.proofs.Decide.{Reads, holds, is-true, is-false, leb-reads, and-reads}
 use Rattle.ieee.proofs.Patterns.{infinity-top, finite-is, infinite-is}
 use Rattle.ieee.proofs.Verdicts.{reads-as}
 
@@ -35,13 +36,16 @@ module _ (f : Format) (g : Fair f) where
       omega arith
 
   -- a NaN signals exactly when its magnitude is below that of the canonical NaN
-  pub signals-reads : (x : ℕ) → Reads ((inf f < magnitude f x) × (magnitude f x < canonical f)) (signals f x)
+  signals-reads : (x : ℕ) → Reads ((inf f < magnitude f x) × (magnitude f x < canonical f)) (signals f x)
   signals-reads x =
       reads-as (
         λ h. (h .0, omega (arith, fraction-is x (h .0), h .1)),
         λ h. (h .0, omega (arith, fraction-is x (h .0), h .1)),
       )
       (and-reads (leb-reads (suc (inf f)) (magnitude f x)) (leb-reads (suc (fraction f x)) (2 ^ (f .frac - 1))))
+
+  pub signalling : (x : ℕ) → (signals f x ≡ true) ↔ ((inf f < magnitude f x) × (magnitude f x < canonical f))
+  signalling x = (holds (signals-reads x), is-true (signals-reads x))
 
   pub canonical-quiet : (x : ℕ) → magnitude f x ≡ canonical f → signals f x ≡ false
   canonical-quiet x e = is-false (signals-reads x) (λ h. omega (arith, h .1))

@@ -11,7 +11,7 @@ use Rattle.ieee.specs.Format.{Format, Fair, bias, low, units}
 use Rattle.ieee.specs.Pattern.{minus, magnitude, Kind, nan, infinite, finite, kind}
 use Rattle.ieee.specs.Exact.{root, signOf, Over, magnified}
 use Rattle.ieee.specs.Round.{Way, Attribute, toward-positive, toward-negative, wayOf}
-use Rattle.ieee.specs.Flags.{Flags, none, only-invalid, signals, largest, raised}
+use Rattle.ieee.specs.Flags.{Flags, none, onlyInvalid, signals, largest, raised}
 use Rattle.ieee.specs.FlagsRule.{FlagsRule, Clean}
 use Rattle.ieee.specs.FlagRows.{SqrtFlagRows}
 use Rattle.ieee.specs.Band.{Band}
@@ -21,7 +21,7 @@ use Rattle.ieee.proofs.Decide.{is-false}
 use Rattle.ieee.proofs.Patterns.{finite-is}
 use Rattle.ieee.proofs.Sqrts.{root-exact, sqrt-answer}
 use Rattle.ieee.proofs.Bands.{band}
-use Rattle.ieee.proofs.Verdicts.{before-twice, twice-units, PastLargest, BelowNormal, not-reaches}
+use Rattle.ieee.proofs.Verdicts.{beforeTwice, twice-units, PastLargest, BelowNormal, not-reaches}
 use Rattle.ieee.proofs.Raised.{raised-rule, overflow-reads, underflow-reads}
 use Rattle.ieee.proofs.Cleans.{none-clean, invalid-clean, raised-clean}
 use Rattle.ieee.proofs.FarFlags.{zero-flags, over-reaches}
@@ -98,10 +98,10 @@ module _ (f : Format) (g : Fair f) where
       let b : 2 ^ f .frac * 2 ^ f .frac ≤ u * 2 ^ low f = omega (arith, times-le (2 ^ low f) l) in
       let e = twice-units f g in
       let o : Over (magnified (root (u * 2 ^ low f)) 2) (2 * (2 * 2 ^ f .frac)) = omega arith in
-      t .1 (over-reaches f w (magnified (root (u * 2 ^ low f)) 2) tt (before-twice f g) (rw e o))
+      t .1 (over-reaches f w (magnified (root (u * 2 ^ low f)) 2) tt (beforeTwice f g) (rw e o))
 
   module _ (a : Attribute) (x : ℕ) where
-    by-rows : (G : Flags → Type 0) → G none → G only-invalid
+    by-rows : (G : Flags → Type 0) → G none → G onlyInvalid
         → ((u : ℕ) → kind f x ≡ finite (suc u) → minus f x ≡ false → G (raised f a false (rootOf f (suc u)))) → G (sqrtFlagsIn f a x)
     by-rows G n i r = go (signals f x) (minus f x) (kind f x) refl refl refl
       where

@@ -11,7 +11,7 @@ use Rattle.algebra.proofs.Powers.{pow-diff}
 use Rattle.ieee.specs.Format.{Format, Fair, inf, units}
 use Rattle.ieee.specs.Exact.{Exact, Under, magnified}
 use Rattle.ieee.specs.Round.{Way, even, away, shorter, longer, rounded}
-use Rattle.ieee.specs.Flags.{wider, finer, widely, largest, least-normal, overflows, tiny}
+use Rattle.ieee.specs.Flags.{wider, finer, widely, largest, leastNormal, overflows, tiny}
 use Rattle.ieee.specs.FlagsRule.{Overflow, Tiny, overflowed, Beyond, Small}
 use Rattle.ieee.proofs.Units.{units-at, units-rise, units-mono, units-lt, units-lt-inv}
 use Rattle.ieee.proofs.Decide.{Reads, so, not-so, alike, leb-reads, and-reads, not-reads}
@@ -56,20 +56,20 @@ module _ (f : Format) (g : Fair f) where
   PastLargest w x = Reaches f w x (largest f)
 
   -- twice the least normal number is the magnitude 2 * 2 ^ frac; the one before it
-  abbrev pub before-twice : ℕ
-  before-twice = 2 * 2 ^ f .frac - 1
+  abbrev pub beforeTwice : ℕ
+  beforeTwice = 2 * 2 ^ f .frac - 1
 
   -- x is not zero, and twice x does not reach twice the least normal number
   abbrev pub BelowNormal : Way → Exact → Type 0
-  BelowNormal w x = (Under x 0 → ⊥) × (Reaches f w (magnified x 2) before-twice → ⊥)
+  BelowNormal w x = (Under x 0 → ⊥) × (Reaches f w (magnified x 2) beforeTwice → ⊥)
 
-  pub twice-units : units f (suc before-twice) ≡ 2 * 2 ^ f .frac
+  pub twice-units : units f (suc beforeTwice) ≡ 2 * 2 ^ f .frac
   twice-units = ap (units f) (omega (arith, pow-pos (f .frac))) ∙ units-at f 2 0 (pow-pos (f .frac)) ∙ omega arith
 
-  pub normal-units : units f (least-normal f) ≡ 2 ^ f .frac
+  pub normal-units : units f (leastNormal f) ≡ 2 ^ f .frac
   normal-units = ap (units f) (omega arith) ∙ units-at f 1 0 (pow-pos (f .frac)) ∙ omega arith
 
-  pub before-units : units f before-twice ≡ 2 * 2 ^ f .frac - 1
+  pub before-units : units f beforeTwice ≡ 2 * 2 ^ f .frac - 1
   before-units =
       let c : 2 ^ f .frac - 1 < 2 ^ f .frac = omega (arith, pow-pos (f .frac)) in
       ap (units f) (omega (arith, pow-pos (f .frac))) ∙ units-at f 1 (2 ^ f .frac - 1) c ∙ omega (arith, pow-pos (f .frac))
@@ -142,7 +142,7 @@ module _ (f : Format) (g : Fair f) where
     finer-twice : 2 * 2 ^ (d - 1) ≡ 2 ^ d
     finer-twice = omega (arith, two-pow-succ (d - 1), ap (λ c. 2 ^ c) finer-suc)
 
-    least-units : units e least ≡ units f before-twice * 2 ^ (d - 1)
+    least-units : units e least ≡ units f beforeTwice * 2 ^ (d - 1)
     unfolding least
     least-units =
         let c : 2 ^ f .frac - 1 < 2 ^ f .frac = omega (arith, pow-pos (f .frac)) in
@@ -151,20 +151,20 @@ module _ (f : Format) (g : Fair f) where
         ∙ ap (λ u. u * 2 ^ (d - 1)) {x = 2 ^ f .frac + (2 ^ f .frac - 1)} {y = (2 ^ f .frac + (2 ^ f .frac - 1)) * 2 ^ 0} (omega arith)
         ∙ ap (λ u. u * 2 ^ (d - 1)) (sym (units-at f 1 (2 ^ f .frac - 1) c) ∙ ap (units f) (omega (arith, pow-pos (f .frac))))
 
-    least-next-units : units e (suc least) ≡ units f (least-normal f) * 2 ^ d
+    least-next-units : units e (suc least) ≡ units f (leastNormal f) * 2 ^ d
     least-next-units = ap (units e) least-next ∙ units-shift f g k l (2 ^ f .frac) (omega arith)
 
-    least-next-twice : units e (suc least) ≡ units f (suc before-twice) * 2 ^ (d - 1)
+    least-next-twice : units e (suc least) ≡ units f (suc beforeTwice) * 2 ^ (d - 1)
     least-next-twice =
         least-next-units ∙ multiplied (2 ^ d) normal-units ∙ omega (arith, multiplied (2 ^ f .frac) finer-twice) ∙ multiplied (2 ^ (d - 1)) (sym twice-units)
 
-    pub tiny-as : (units e r < units f (least-normal f) * 2 ^ d) ↔ (Reaches f w (magnified x 2) before-twice → ⊥)
+    pub tiny-as : (units e r < units f (leastNormal f) * 2 ^ d) ↔ (Reaches f w (magnified x 2) beforeTwice → ⊥)
     tiny-as =
         let b : suc least < inf e = omega (arith, least-next, fit f g k l, three, pow-pos (f .frac)) in
         let (to, from) = reached least b in
         let q : suc least % 2 ≡ 0 = omega (arith, least-next, half, even-by d (2 ^ f .frac) (2 ^ (f .frac - 1)) half) in
-        let i : suc before-twice % 2 ≡ 0 = omega (arith, half, pow-pos (f .frac)) in
-        let (m, n) = reaches-moved f e (2 ^ (d - 1)) (pow-pos (d - 1)) before-twice least least-units least-next-twice i q w (magnified x 2) in
+        let i : suc beforeTwice % 2 ≡ 0 = omega (arith, half, pow-pos (f .frac)) in
+        let (m, n) = reaches-moved f e (2 ^ (d - 1)) (pow-pos (d - 1)) beforeTwice least least-units least-next-twice i q w (magnified x 2) in
         let t : magnified x (2 ^ d) ≡ magnified (magnified x 2) (2 ^ (d - 1)) = ap (magnified x) (sym finer-twice) ∙ magnified-twice x 2 (2 ^ (d - 1)) in (
           λ h c. omega (arith, least-next-units, units-mono e {i = suc least} {j = r} (from (subst (λ y. Reaches e w y least) (sym t) (n c)))),
           λ h. rw (sym least-next-units) (units-lt e {i = r} {j = suc least} (by-contra (suc r) (suc least) (λ c. h (m (subst (λ y. Reaches e w y least) t (to (omega arith))))))),
@@ -172,7 +172,7 @@ module _ (f : Format) (g : Fair f) where
 
     pub tiny-reads : Reads (BelowNormal w x) (tiny f k w x)
     unfolding tiny widely
-    tiny-reads = and-reads (not-reads (under-reads x 0)) (reads-as tiny-as (leb-reads (suc (units e r)) (units f (least-normal f) * 2 ^ d)))
+    tiny-reads = and-reads (not-reads (under-reads x 0)) (reads-as tiny-as (leb-reads (suc (units e r)) (units f (leastNormal f) * 2 ^ d)))
 
   -- ---- in every wider exponent range
   pub past-every : (w : Way) (x : Exact) → Sound x → PastLargest w x ↔ Overflow f w x
@@ -195,14 +195,14 @@ module _ (f : Format) (g : Fair f) where
     abbrev double : ℕ
     double = rounded f w (magnified x 2)
 
-    twice-as : (Reaches f w (magnified x 2) before-twice → ⊥) ↔ (units f double < 2 * units f (least-normal f))
+    twice-as : (Reaches f w (magnified x 2) beforeTwice → ⊥) ↔ (units f double < 2 * units f (leastNormal f))
     twice-as =
-        let b : suc before-twice < inf f = omega (arith, three, pow-pos (f .frac)) in
-        let (to, from) = at-least f w (magnified x 2) (magnified-sound x 2 s) (suc before-twice) in
-        let (p, q) = passes-reaches f w (magnified x 2) before-twice (λ h. omega arith) in (
-          λ h. let c : double < suc before-twice = by-contra (suc double) (suc before-twice) (λ c. h (p (to (omega arith) .1))) in
+        let b : suc beforeTwice < inf f = omega (arith, three, pow-pos (f .frac)) in
+        let (to, from) = at-least f w (magnified x 2) (magnified-sound x 2 s) (suc beforeTwice) in
+        let (p, q) = passes-reaches f w (magnified x 2) beforeTwice (λ h. omega arith) in (
+          λ h. let c : double < suc beforeTwice = by-contra (suc double) (suc beforeTwice) (λ c. h (p (to (omega arith) .1))) in
               omega (arith, units-lt f c, twice-units, normal-units),
-          λ h n. omega (arith, units-mono f {i = suc before-twice} {j = double} (from (omega arith, q n)), twice-units, normal-units),
+          λ h n. omega (arith, units-mono f {i = suc beforeTwice} {j = double} (from (omega arith, q n)), twice-units, normal-units),
         )
 
     pub tiny-twice : Reads (Small f w x) (tiny f 1 w x)

@@ -6,7 +6,7 @@ use lib.Dec.{eqb}
 use Rattle.ieee.specs.Format.{Format, Fair}
 use Rattle.ieee.specs.Pattern.{Pattern, value, Kind, nan, infinite, finite, kind}
 use Rattle.ieee.specs.Round.{Attribute, toward-zero, toward-negative}
-use Rattle.ieee.specs.Flags.{none, only-inexact, nan-flags, signals}
+use Rattle.ieee.specs.Flags.{none, onlyInexact, nanFlags, signals}
 use Rattle.ieee.specs.FlagsRule.{Clean}
 use Rattle.ieee.specs.FlagRows.{WholeFlagRows}
 use Rattle.ieee.specs.Whole.{wholeIn, wholeFlagsBy, wholeFlagsIn, truncOf, floorOf, truncFlags, floorFlags}
@@ -18,7 +18,7 @@ use Rattle.ieee.proofs.Wholes.{stays-alike}
 use Rattle.ieee.proofs.Cleans.{inexact-clean, none-clean, either-clean}
 
 module _ (f : Format) (a : Attribute) where
-  finite-flags : (x u : ℕ) → kind f x ≡ finite u → wholeFlagsIn f a x ≡ only-inexact (not (eqb (wholeIn f a x) x))
+  finite-flags : (x u : ℕ) → kind f x ≡ finite u → wholeFlagsIn f a x ≡ onlyInexact (not (eqb (wholeIn f a x) x))
   unfolding wholeFlagsIn wholeFlagsBy
   finite-flags x u h = ap (wholeFlagsBy f x (wholeIn f a x)) h
 
@@ -34,10 +34,10 @@ module _ (f : Format) (a : Attribute) where
   unfolding wholeFlagsIn wholeFlagsBy
   whole-flag-rows g =
       record {
-        of-signalling = λ x h s. ap (wholeFlagsBy f x (wholeIn f a x)) h ∙ ap nan-flags s;
-        of-quiet = λ x h s. ap (wholeFlagsBy f x (wholeIn f a x)) h ∙ ap nan-flags s;
+        of-signalling = λ x h s. ap (wholeFlagsBy f x (wholeIn f a x)) h ∙ ap nanFlags s;
+        of-quiet = λ x h s. ap (wholeFlagsBy f x (wholeIn f a x)) h ∙ ap nanFlags s;
         of-infinity = λ x h. ap (wholeFlagsBy f x (wholeIn f a x)) h;
-        of-finite = λ x u h. let e = finite-flags x u h in e ∙ ap only-inexact (sym (ap (λ F. F .inexact) e));
+        of-finite = λ x u h. let e = finite-flags x u h in e ∙ ap onlyInexact (sym (ap (λ F. F .inexact) e));
         changed = λ x u h. (holds (changed-reads x u h), is-true (changed-reads x u h));
         another = λ x u p h. (
           λ i e. holds (changed-reads x u h) i (same-number g x u p h e),
@@ -70,4 +70,4 @@ whole-flags-alike f g a b x p = go (kind f x)
     go : (k : Kind) → wholeFlagsBy f x (wholeIn f a x) k ≡ wholeFlagsBy f x (wholeIn f b x) k
     go nan = refl
     go infinite = refl
-    go (finite u) = ap (λ t. only-inexact (not t)) (alike (eqb-reads (wholeIn f a x) x) (eqb-reads (wholeIn f b x) x) (stays-alike f g a b x p, stays-alike f g b a x p))
+    go (finite u) = ap (λ t. onlyInexact (not t)) (alike (eqb-reads (wholeIn f a x) x) (eqb-reads (wholeIn f b x) x) (stays-alike f g a b x p, stays-alike f g b a x p))

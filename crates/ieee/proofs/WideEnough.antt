@@ -8,7 +8,7 @@ use Rattle.algebra.proofs.Products.{times-le}
 use Rattle.algebra.proofs.Powers.{pow-diff}
 use Rattle.ieee.specs.Format.{Format, Fair, units}
 use Rattle.ieee.specs.Exact.{Exact, ratio, root, Under}
-use Rattle.ieee.specs.Flags.{wider, finer, largest, least-normal}
+use Rattle.ieee.specs.Flags.{wider, finer, largest, leastNormal}
 use Rattle.ieee.specs.FlagsRule.{Inside}
 use Rattle.ieee.proofs.Units.{units-at, units-mono}
 use Rattle.ieee.proofs.Sides.{Sound}
@@ -40,7 +40,7 @@ module _ (f : Format) (g : Fair f) (k : ℕ) (l : 1 ≤ k) where
   top : 2 ^ (f .expo + k) ≡ 2 * (finer f k + a)
   top = sym (pow-diff {a = f .expo + k} {b = 1} (omega (arith, g .expo-two))) ∙ omega (arith, finer-is f g k l)
 
-  least-units : units (wider f k) (least-normal (wider f k)) ≡ 2 ^ f .frac
+  least-units : units (wider f k) (leastNormal (wider f k)) ≡ 2 ^ f .frac
   least-units = ap (units (wider f k)) (omega arith) ∙ units-at (wider f k) 1 0 (pow-pos (f .frac)) ∙ omega arith
 
   last : ℕ

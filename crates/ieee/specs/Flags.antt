@@ -17,11 +17,11 @@ pub record Flags : Type 0 where
 abbrev pub none : Flags
 none = record { invalid = false; division-by-zero = false; overflow = false; underflow = false; inexact = false }
 
-abbrev pub only-invalid : Flags
-only-invalid = record { invalid = true; division-by-zero = false; overflow = false; underflow = false; inexact = false }
+abbrev pub onlyInvalid : Flags
+onlyInvalid = record { invalid = true; division-by-zero = false; overflow = false; underflow = false; inexact = false }
 
-abbrev pub only-inexact : Bool → Flags
-only-inexact b = record { invalid = false; division-by-zero = false; overflow = false; underflow = false; inexact = b }
+abbrev pub onlyInexact : Bool → Flags
+onlyInexact b = record { invalid = false; division-by-zero = false; overflow = false; underflow = false; inexact = b }
 
 -- the flags as one number: 1, 4, 8, 16 and 32
 abbrev pub wordOf : Flags → ℕ
@@ -32,8 +32,8 @@ abbrev pub signals : Format → ℕ → Bool
 signals f x = ltb (inf f) (magnitude f x) && ltb (fraction f x) (2 ^ (f .frac - 1))
 
 -- what an operation that takes a NaN and gives one raises (clause 6.2)
-abbrev pub nan-flags : Bool → Flags
-nan-flags b = cond b only-invalid none
+abbrev pub nanFlags : Bool → Flags
+nanFlags b = cond b onlyInvalid none
 
 -- ---- as though the exponent range were unbounded
 -- k exponent bits more: one smallest unit of f is 2 ^ finer f k smallest units there
@@ -52,8 +52,8 @@ widely f k w x = units (wider f k) (rounded (wider f k) w (magnified x (2 ^ fine
 abbrev pub largest : Format → ℕ
 largest f = inf f - 1
 
-abbrev pub least-normal : Format → ℕ
-least-normal f = 2 ^ f .frac
+abbrev pub leastNormal : Format → ℕ
+leastNormal f = 2 ^ f .frac
 
 -- clause 7.4: the largest finite number is exceeded by what the rounded result would be; one exponent bit more shows it as any number of them does
 unfoldable pub overflows : Format → ℕ → Way → Exact → Bool
@@ -63,7 +63,7 @@ overflows f k w x = ltb (units f (largest f) * 2 ^ finer f k) (widely f k w x)
 -- clause 7.5, a: a result that is not zero, and would lie below 2 ^ emin
 unfoldable pub tiny : Format → ℕ → Way → Exact → Bool
 unfolding widely
-tiny f k w x = not (under x 0) && ltb (widely f k w x) (units f (least-normal f) * 2 ^ finer f k)
+tiny f k w x = not (under x 0) && ltb (widely f k w x) (units f (leastNormal f) * 2 ^ finer f k)
 
 -- ---- an exact magnitude, rounded once
 -- m is finite, and is x

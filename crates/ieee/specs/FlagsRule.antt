@@ -9,7 +9,7 @@ use Rattle.ieee.specs.Pattern.{magnitude, signed, value}
 use Rattle.ieee.specs.Exact.{Exact, Value, dyadic, surd, signOf, absolute, Over, Under, magnified}
 use Rattle.ieee.specs.Round.{Way, even, away, shorter, longer, Attribute, wayOf, rounded}
 use Rattle.ieee.specs.Rule.{halfway}
-use Rattle.ieee.specs.Flags.{Flags, none, only-invalid, wider, finer, widely, largest, least-normal, overflows, tiny}
+use Rattle.ieee.specs.Flags.{Flags, none, onlyInvalid, wider, finer, widely, largest, leastNormal, overflows, tiny}
 
 -- ---- inexact
 -- an exact value is a whole number with a sign; a root by its square
@@ -29,7 +29,7 @@ Overflow f w x = (k : ℕ) → 1 ≤ k → units f (largest f) * 2 ^ finer f k <
 
 -- x is not zero, and what it is rounded to there is below 2 ^ emin
 abbrev pub Tiny : Format → Way → Exact → Type 0
-Tiny f w x = (Under x 0 → ⊥) × ((k : ℕ) → 1 ≤ k → widely f k w x < units f (least-normal f) * 2 ^ finer f k)
+Tiny f w x = (Under x 0 → ⊥) × ((k : ℕ) → 1 ≤ k → widely f k w x < units f (leastNormal f) * 2 ^ finer f k)
 
 -- clause 7.4: what an overflow gives
 abbrev pub overflowed : Format → Way → ℕ
@@ -49,9 +49,6 @@ pub record FlagsRule (f : Format) (a : Attribute) (s : Bool) (v : Value) (r : �
   -- so an exact answer, subnormal or not, raises nothing
   pub exact-when : (F .inexact ≡ false) ↔ Exactly f v r
   pub exact-none : Exactly f v r → F ≡ none
-  -- an overflow, and an underflow, is inexact
-  pub overflow-inexact : F .overflow ≡ true → F .inexact ≡ true
-  pub underflow-inexact : F .underflow ≡ true → F .inexact ≡ true
   -- an overflow gives infinity, or the largest finite number where the way is toward zero; and an infinity is always an overflow
   pub overflow-gives : F .overflow ≡ true → r ≡ signed f (signOf s v) (overflowed f (wayOf a (signOf s v)))
   pub infinity-overflow : magnitude f r ≡ inf f → F .overflow ≡ true
@@ -59,8 +56,9 @@ pub record FlagsRule (f : Format) (a : Attribute) (s : Bool) (v : Value) (r : �
 -- the flags of any operation, whatever its operands
 pub record Clean (F : Flags) : Type 0 where
   -- invalid stands alone
-  pub alone : F .invalid ≡ true → F ≡ only-invalid
+  pub alone : F .invalid ≡ true → F ≡ onlyInvalid
   pub no-division : F .division-by-zero ≡ false
+  -- an overflow, and an underflow, is inexact
   pub overflow-inexact : F .overflow ≡ true → F .inexact ≡ true
   pub underflow-inexact : F .underflow ≡ true → F .inexact ≡ true
 
@@ -68,7 +66,7 @@ pub record Clean (F : Flags) : Type 0 where
 -- x lies between the least normal and the largest finite number of the format with k exponent bits more: no bound of the exponent touches it there
 pub record Inside (f : Format) (k : ℕ) (x : Exact) : Type 0 where
   pub more : 1 ≤ k
-  pub normal : Over (magnified x (2 ^ finer f k)) (2 * units (wider f k) (least-normal (wider f k)))
+  pub normal : Over (magnified x (2 ^ finer f k)) (2 * units (wider f k) (leastNormal (wider f k)))
   pub finite : Under (magnified x (2 ^ finer f k)) (2 * units (wider f k) (largest (wider f k)))
 
 -- overflow in f alone, by the way: at or past the halfway point; at or past what the next number would be; above the largest number
@@ -80,7 +78,7 @@ Beyond f longer x = Under x (2 * units f (largest f)) → ⊥
 
 -- tininess in f alone: twice x, rounded, is below twice the least normal number
 abbrev pub Small : Format → Way → Exact → Type 0
-Small f w x = (Under x 0 → ⊥) × (units f (rounded f w (magnified x 2)) < 2 * units f (least-normal f))
+Small f w x = (Under x 0 → ⊥) × (units f (rounded f w (magnified x 2)) < 2 * units f (leastNormal f))
 
 pub record Unbounded (f : Format) (w : Way) (x : Exact) : Type 0 where
   -- every number of exponent bits more gives the verdict of one, and for all but zero some number is enough

@@ -8,7 +8,7 @@ use Rattle.ieee.specs.Format.{Format, low, inf, canonical}
 use Rattle.ieee.specs.Pattern.{Kind, nan, infinite, finite, kind, minus, signed, unlike, withSign, value}
 use Rattle.ieee.specs.Exact.{Value, dyadic}
 use Rattle.ieee.specs.Round.{Attribute, ties-to-even, ties-to-away, toward-zero, toward-positive, toward-negative, answer}
-use Rattle.ieee.specs.Flags.{Flags, none, only-invalid, signals, raised}
+use Rattle.ieee.specs.Flags.{Flags, none, onlyInvalid, signals, raised}
 
 -- infinity times so many units: zero meets infinity, or infinity
 abbrev pub infinityTimes : ℕ → Kind
@@ -80,7 +80,7 @@ unfoldable pub plusFlagsBy : Format → Attribute → Bool → Kind → Bool →
 unfolding raised
 plusFlagsBy f a s nan t l = none
 plusFlagsBy f a s infinite t nan = none
-plusFlagsBy f a s infinite t infinite = cond (unlike s t) only-invalid none
+plusFlagsBy f a s infinite t infinite = cond (unlike s t) onlyInvalid none
 plusFlagsBy f a s infinite t (finite w) = none
 plusFlagsBy f a s (finite p) t nan = none
 plusFlagsBy f a s (finite p) t infinite = none
@@ -89,7 +89,7 @@ plusFlagsBy f a s (finite p) t (finite w) = raised f a (sumSign a s t) (sumOf f 
 unfoldable pub fmaFlagsIn : Format → Attribute → ℕ → ℕ → ℕ → Flags
 unfolding plusFlagsBy kind
 fmaFlagsIn f a x y z =
-    cond (signalled f x y z || clashes (kind f x) (kind f y)) only-invalid
+    cond (signalled f x y z || clashes (kind f x) (kind f y)) onlyInvalid
     (plusFlagsBy f a (unlike (minus f x) (minus f y)) (times (kind f x) (kind f y)) (minus f z) (kind f z))
 
 unfoldable pub fmaFlags : Format → ℕ → ℕ → ℕ → Flags

@@ -4,7 +4,7 @@ use mathlib.Core.Path.{_≡_}
 use mathlib.Core.Bool.{true, false}
 use Rattle.ieee.specs.Format.{Format, b64, b32, bias, low, units, canonical}
 use Rattle.ieee.specs.Rule.{halfway}
-use Rattle.ieee.specs.Flags.{none, only-invalid, only-inexact, judged, wordOf}
+use Rattle.ieee.specs.Flags.{none, onlyInvalid, onlyInexact, judged, wordOf}
 use Rattle.ieee.specs.Status.{OK, INVALID, INEXACT}
 use Rattle.ieee.specs.Reduction.{shiftLimit, divisorLimit}
 use Rattle.ieee.specs.Lists.{listLimit}
@@ -31,11 +31,11 @@ pub record Statuses : Type 0 where
 -- a number for each flag, and for flags together their sum
 pub record FlagNumbers : Type 0 where
   pub nothing : wordOf none ≡ 0
-  pub invalid : wordOf only-invalid ≡ 1
+  pub invalid : wordOf onlyInvalid ≡ 1
   pub division-by-zero : wordOf (record { invalid = false; division-by-zero = true; overflow = false; underflow = false; inexact = false }) ≡ 4
   pub overflow : wordOf (judged true false true) ≡ 8 + 32
   pub underflow : wordOf (judged false true true) ≡ 16 + 32
-  pub inexact : wordOf (only-inexact true) ≡ 32
+  pub inexact : wordOf (onlyInexact true) ≡ 32
 
 -- places of a list; the divisor and the shift of a reduction
 pub record Limits : Type 0 where

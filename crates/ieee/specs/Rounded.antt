@@ -16,34 +16,34 @@ pub record Rounded : Type 0 where
   pub value : ℕ
   pub flags : Flags
 
-abbrev pub done : ℕ → Flags → Rounded
-done r F = record { number = 0; value = r; flags = F }
+abbrev pub answered : ℕ → Flags → Rounded
+answered r F = record { number = 0; value = r; flags = F }
 
 -- no such attribute
-abbrev pub refused : Rounded
-refused = record { number = 10; value = 0; flags = none }
+abbrev pub noAttribute : Rounded
+noAttribute = record { number = 10; value = 0; flags = none }
 
 -- the attributes in the order of their numbers, from 0 on
 abbrev pub attributes : List Attribute
 attributes = ties-to-even ∷ toward-zero ∷ toward-negative ∷ toward-positive ∷ ties-to-away ∷ []
 
 -- what a call gives under the nth of them
-abbrev pub under : List Attribute → ℕ → (Attribute → Rounded) → Rounded
-under [] n call = refused
-under (a ∷ rest) zero call = call a
-under (a ∷ rest) (suc n) call = under rest n call
+abbrev pub numbered : List Attribute → ℕ → (Attribute → Rounded) → Rounded
+numbered [] n call = noAttribute
+numbered (a ∷ rest) zero call = call a
+numbered (a ∷ rest) (suc n) call = numbered rest n call
 
 unfoldable pub sqrtRounded : Format → ℕ → ℕ → Rounded
 unfolding sqrtIn sqrtFlagsIn
-sqrtRounded f n x = under attributes n (λ a. done (sqrtIn f a x) (sqrtFlagsIn f a x))
+sqrtRounded f n x = numbered attributes n (λ a. answered (sqrtIn f a x) (sqrtFlagsIn f a x))
 
 unfoldable pub fmaRounded : Format → ℕ → ℕ → ℕ → ℕ → Rounded
 unfolding fmaIn fmaFlagsIn
-fmaRounded f n x y z = under attributes n (λ a. done (fmaIn f a x y z) (fmaFlagsIn f a x y z))
+fmaRounded f n x y z = numbered attributes n (λ a. answered (fmaIn f a x y z) (fmaFlagsIn f a x y z))
 
 unfoldable pub scalbnRounded : Format → ℕ → ℕ → ℤ → Rounded
 unfolding scalbnIn scalbnFlagsIn
-scalbnRounded f n x k = under attributes n (λ a. done (scalbnIn f a x k) (scalbnFlagsIn f a x k))
+scalbnRounded f n x k = numbered attributes n (λ a. answered (scalbnIn f a x k) (scalbnFlagsIn f a x k))
 
 -- ---- what a call is held to
 abbrev pub Gives : Rounded → ℕ → ℕ → Flags → Type 0

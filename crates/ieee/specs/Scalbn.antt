@@ -6,7 +6,7 @@ use Rattle.ieee.specs.Format.{Format, canonical}
 use Rattle.ieee.specs.Pattern.{Kind, nan, infinite, finite, kind, minus, withSign, value}
 use Rattle.ieee.specs.Exact.{Value, dyadic}
 use Rattle.ieee.specs.Round.{Attribute, ties-to-even, answer}
-use Rattle.ieee.specs.Flags.{Flags, none, nan-flags, signals, raised}
+use Rattle.ieee.specs.Flags.{Flags, none, nanFlags, signals, raised}
 
 -- u units with the sign s, times 2 ^ n, exactly
 abbrev pub scaled : Bool → ℕ → ℤ → Value
@@ -39,7 +39,7 @@ scalbnOf f x n = scalbnIn f ties-to-even x n
 -- ---- the flags (clause 7.2): invalid for a signalling NaN alone
 unfoldable pub scalbnFlagsBy : Format → Attribute → ℕ → ℤ → Kind → Flags
 unfolding raised
-scalbnFlagsBy f a x n nan = nan-flags (signals f x)
+scalbnFlagsBy f a x n nan = nanFlags (signals f x)
 scalbnFlagsBy f a x n infinite = none
 scalbnFlagsBy f a x n (finite u) = raised f a (minus f x) (scaled (minus f x) u (clamp (reach f) n))
 

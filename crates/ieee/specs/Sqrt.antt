@@ -6,7 +6,7 @@ use Rattle.ieee.specs.Format.{Format, low, canonical}
 use Rattle.ieee.specs.Pattern.{Kind, nan, infinite, finite, kind, minus, value}
 use Rattle.ieee.specs.Exact.{Value, surd}
 use Rattle.ieee.specs.Round.{Attribute, ties-to-even, answer}
-use Rattle.ieee.specs.Flags.{Flags, none, only-invalid, nan-flags, signals, raised}
+use Rattle.ieee.specs.Flags.{Flags, none, onlyInvalid, nanFlags, signals, raised}
 use Rattle.ieee.specs.Status.{OK, INVALID}
 
 -- the exact root of u units: r units are it where r r = u 2 ^ low, since a unit is 2 ^ -low
@@ -47,12 +47,12 @@ sqrtStatus f x = sqrtStatusBy (minus f x) (kind f x)
 -- ---- the flags (clause 7.2): invalid for a signalling NaN, and below zero; n says that x signals
 unfoldable pub sqrtFlagsBy : Format → Attribute → Bool → Bool → Kind → Flags
 unfolding raised
-sqrtFlagsBy f a n s nan = nan-flags n
+sqrtFlagsBy f a n s nan = nanFlags n
 sqrtFlagsBy f a n false infinite = none
-sqrtFlagsBy f a n true infinite = only-invalid
+sqrtFlagsBy f a n true infinite = onlyInvalid
 sqrtFlagsBy f a n s (finite zero) = raised f a s (rootOf f 0)
 sqrtFlagsBy f a n false (finite (suc u)) = raised f a false (rootOf f (suc u))
-sqrtFlagsBy f a n true (finite (suc u)) = only-invalid
+sqrtFlagsBy f a n true (finite (suc u)) = onlyInvalid
 
 unfoldable pub sqrtFlagsIn : Format → Attribute → ℕ → Flags
 unfolding sqrtFlagsBy kind

@@ -5,7 +5,7 @@ use lib.Dec.{leb, ltb, eqb}
 use Rattle.ieee.specs.Format.{Format, low}
 use Rattle.ieee.specs.Pattern.{Kind, nan, infinite, finite, kind, minus, signed}
 use Rattle.ieee.specs.Round.{Way, even, away, shorter, longer, Attribute, toward-zero, toward-negative, wayOf, rounded, exactly}
-use Rattle.ieee.specs.Flags.{Flags, none, only-inexact, nan-flags, signals}
+use Rattle.ieee.specs.Flags.{Flags, none, onlyInexact, nanFlags, signals}
 use Rattle.ieee.specs.Status.{OK, INEXACT}
 
 -- n / d as a whole number, the way w
@@ -48,9 +48,9 @@ floorStatus f x = wholeStatus f x (floorOf f x)
 
 -- ---- the flags: invalid for a signalling NaN, and inexact exactly where a finite operand x is changed, to r
 unfoldable pub wholeFlagsBy : Format → ℕ → ℕ → Kind → Flags
-wholeFlagsBy f x r nan = nan-flags (signals f x)
+wholeFlagsBy f x r nan = nanFlags (signals f x)
 wholeFlagsBy f x r infinite = none
-wholeFlagsBy f x r (finite u) = only-inexact (not (eqb r x))
+wholeFlagsBy f x r (finite u) = onlyInexact (not (eqb r x))
 
 unfoldable pub wholeFlagsIn : Format → Attribute → ℕ → Flags
 unfolding wholeFlagsBy wholeIn kind

@@ -11,12 +11,12 @@ use native.Mathlib.Omega.{arith}
 use lib.Dec.{eqb, lit<}
 use lib.IntN.{ℤ}
 use lib.Ieee.{binary64, binary32}
-use Rattle.ieee.specs.Format.{Format, b64, b32, b16, inf, units, Fair}
+use Rattle.ieee.specs.Format.{Format, b64, b32, b16, inf, canonical, units, Fair}
 use Rattle.ieee.specs.Pattern.{minus, magnitude, finite, kind}
 use Rattle.ieee.specs.Exact.{Value, absolute}
 use Rattle.ieee.specs.Round.{Way, Attribute, ties-to-even, toward-positive, toward-negative, answer}
 use Rattle.ieee.specs.Rule.{Ties, to-even, tiesAttribute, Once, RuleIn}
-use Rattle.ieee.specs.Flags.{Flags, raised}
+use Rattle.ieee.specs.Flags.{Flags, signals, raised}
 use Rattle.ieee.specs.FlagsRule.{FlagsRule, Clean, Unbounded}
 use Rattle.ieee.specs.FlagRows.{SqrtFlagRows, FmaFlagRows, ScalbnFlagRows, WholeFlagRows}
 use Rattle.ieee.specs.Band.{Band}
@@ -40,6 +40,7 @@ use Rattle.ieee.proofs.Answers.{once-unique}
 use Rattle.ieee.proofs.Attributes.{answer-met-unique}
 use Rattle.ieee.proofs.Raised.{nearest-overflow, rule-one}
 use Rattle.ieee.proofs.Unbounded.{unbounded}
+use Rattle.ieee.proofs.Signals.{signalling}
 use Rattle.ieee.proofs.Sqrts.{SqrtRows, sqrt-once, sqrt-met, sqrt-rows}
 use Rattle.ieee.proofs.SqrtFlags.{sqrt-flags-rule, sqrt-flag-rows, sqrt-clean, sqrt-no-overflow, sqrt-no-underflow, sqrt-band}
 use Rattle.ieee.proofs.Fmas.{FmaRows, fma-once, fma-met, fma-rows}
@@ -223,6 +224,10 @@ range-is-unbounded = unbounded
 pub nearest-overflows-to-infinity : (f : Format) → Fair f → (t : Ties) (s : Bool) (v : Value)
     → (raised f (tiesAttribute t) s v .overflow ≡ true) ↔ (magnitude f (answer f (tiesAttribute t) s v) ≡ inf f)
 nearest-overflows-to-infinity = nearest-overflow
+
+-- a NaN signals exactly where its magnitude is below that of the canonical NaN
+pub signalling-is-below-the-canonical : (f : Format) → Fair f → (x : ℕ) → (signals f x ≡ true) ↔ ((inf f < magnitude f x) × (magnitude f x < canonical f))
+signalling-is-below-the-canonical = signalling
 
 -- NaNs, infinities and zeros, row by row: when invalid is raised, and that nothing else is
 pub sqrt-flags-by-rows : (f : Format) → Fair f → (a : Attribute) → SqrtFlagRows f a
