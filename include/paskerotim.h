@@ -18,8 +18,7 @@
    above it on, 2^1024 - 2^970 at 64 bits and 2^128 - 2^103 at 32, the answer is infinity. A value that rounds to zero gives
    a zero with the value's sign.
 
-   The canonical NaN is PK_NAN64 or PK_NAN32. It is the only NaN that sqrt, fma, fmod, remquo and scalbn answer; floor and
-   trunc return a NaN as it is, bit for bit.
+   The canonical NaN is PK_NAN64 or PK_NAN32. It is the only NaN that is ever answered.
 
    For C99 and C++. Link libpaskerotim.a; nothing else is needed. */
 
@@ -80,23 +79,23 @@ uint32_t pk_sqrt64_status(uint64_t x);
 uint32_t pk_sqrt32_status(uint32_t x);
 
 /* floor: the greatest whole number that is not above x, exactly.
-   Zeros of either sign and infinities are returned as they are, and so is a NaN. Between 0 and 1 the answer is +0, between
-   -1 and 0 it is -1. */
+   Zeros of either sign and infinities are returned as they are. A NaN gives the canonical NaN. Between 0 and 1 the answer
+   is +0, between -1 and 0 it is -1. */
 uint64_t pk_floor64(uint64_t x);
 uint32_t pk_floor32(uint32_t x);
 
-/* Its status: PK_INEXACT where the answer is another pattern than x and the fraction field of x, its low 52 (23) bits, is
-   not zero; PK_OK for all else. So the floor of 0.75 is PK_INEXACT, but that of 0.5, whose fraction field is zero, PK_OK. */
+/* Its status: PK_INEXACT exactly where x is finite and the answer is another pattern, so for every number that is not
+   whole; PK_OK for all else, a NaN too. */
 uint32_t pk_floor64_status(uint64_t x);
 uint32_t pk_floor32_status(uint32_t x);
 
 /* trunc: x without its fraction, exactly, with the sign of x.
-   Zeros of either sign and infinities are returned as they are, and so is a NaN. Between -1 and 0 the answer is -0. */
+   Zeros of either sign and infinities are returned as they are. A NaN gives the canonical NaN. Between -1 and 0 the answer
+   is -0. */
 uint64_t pk_trunc64(uint64_t x);
 uint32_t pk_trunc32(uint32_t x);
 
-/* Its status, by the rule of floor's: PK_INEXACT where the answer is another pattern than x and the fraction field of x is
-   not zero; PK_OK for all else. */
+/* Its status, by the rule of floor's: PK_INEXACT exactly where x is finite and the answer is another pattern. */
 uint32_t pk_trunc64_status(uint64_t x);
 uint32_t pk_trunc32_status(uint32_t x);
 

@@ -13,15 +13,15 @@ use lib.Ieee.Fits.{down-pos}
 use lib.Ieee.Nearest.{div-same}
 use Rattle.algebra.proofs.Products.{times, mul-le-cancel}
 use Rattle.ieee.specs.Format.{low, inf}
-use Rattle.ieee.specs.Pattern.{Pattern, minus, signed, withSign, Kind, nan, infinite, finite, kind}
+use Rattle.ieee.specs.Pattern.{Pattern, minus, signed, withSign, Kind, infinite, finite, kind}
 use Rattle.ieee.specs.Round.{Attribute, toward-zero, toward-negative, wayOf, exactly}
 use Rattle.ieee.specs.Whole.{whole, wholeIn, truncOf, floorOf}
 use Rattle.ieee.specs.Fmod.{left}
 use Rattle.ieee.proofs.Decide.{alike, eqb-reads}
 use Rattle.ieee.proofs.Patterns.{infinity-is}
-use Rattle.ieee.proofs.WholeParts.{wholeIn-finite, infinity-stays}
+use Rattle.ieee.proofs.WholeParts.{wholeIn-finite, nan-canonical, infinity-stays}
 use Rattle.agreement.specs.Toolchain.{ours, Same, nans, infinities, numbers, part, truncated, floored}
-use Rattle.agreement.proofs.Patterns.{pattern-same, write-infinite, counted}
+use Rattle.agreement.proofs.Patterns.{pattern-same, write-nan, write-infinite, counted}
 use Rattle.agreement.proofs.Rounding.{round-as}
 use Rattle.agreement.proofs.Remainders.{left-scale}
 
@@ -65,16 +65,16 @@ module _ (k : Theirs) where
   unfolding truncOf
   trunc-number x s m e u r c h = sends toward-zero x s (part m e) u r c (sym (div-same (m * up e) (down e) u (2 ^ low (ours k)) (down-pos e) (pow-pos (low (ours k))) h))
 
-  module _ (x : ℕ) (p : Pattern (ours k) x) (n : kind (ours k) x ≡ nan → ⊥) where
+  module _ (x : ℕ) (p : Pattern (ours k) x) where
     trunc-rows : {v : Float} {s : Bool} {a : Kind} → Same (low (ours k)) v s a → s ≡ minus (ours k) x → kind (ours k) x ≡ a → toBits k (truncated k v) ≡ truncOf (ours k) x
     unfolding truncOf
-    trunc-rows (nans s) r e = absurd (n e)
+    trunc-rows (nans s) r e = write-nan k ∙ sym (nan-canonical (ours k) toward-zero x e)
     trunc-rows (infinities s) r e = infinity-same toward-zero x s p r e
     trunc-rows (numbers s m d u h) r e = trunc-number x s m d u r e h
 
     floor-rows : {v : Float} {s : Bool} {a : Kind} → Same (low (ours k)) v s a → s ≡ minus (ours k) x → kind (ours k) x ≡ a → toBits k (floored k v) ≡ floorOf (ours k) x
     unfolding floorOf
-    floor-rows (nans s) r e = absurd (n e)
+    floor-rows (nans s) r e = write-nan k ∙ sym (nan-canonical (ours k) toward-negative x e)
     floor-rows (infinities s) r e = infinity-same toward-negative x s p r e
     floor-rows (numbers s m d u h) r e =
         sends toward-negative x s (part m d + cond (s && not (eqb (m * up d % down d) 0)) 1 0) u r e (down-same s (m * up d) (down d) (2 ^ low (ours k)) u (down-pos d) (pow-pos (low (ours k))) h)

@@ -59,9 +59,8 @@ pub record Operations (k : Theirs) : Type 0 where
 
 -- ---- operations that they lack, made of their parts; the rows of NaNs and infinities are ours, but for remquo's, which are their remainder's
 pub record Derived (k : Theirs) : Type 0 where
-  -- all but NaNs, which trunc and floor give back
-  pub trunc : (x : ℕ) → Pattern (ours k) x → (kind (ours k) x ≡ nan → ⊥) → toBits k (truncated k (ofBits k x)) ≡ truncOf (ours k) x
-  pub floor : (x : ℕ) → Pattern (ours k) x → (kind (ours k) x ≡ nan → ⊥) → toBits k (floored k (ofBits k x)) ≡ floorOf (ours k) x
+  pub trunc : (x : ℕ) → Pattern (ours k) x → toBits k (truncated k (ofBits k x)) ≡ truncOf (ours k) x
+  pub floor : (x : ℕ) → Pattern (ours k) x → toBits k (floored k (ofBits k x)) ≡ floorOf (ours k) x
   -- trunc is also a cast to an integer of h bits and a sign, or of h bits, and back: of a number in its range, where the sign of a zero is not lost
   pub signed-cast : (x : ℕ) (s : Bool) (m : ℕ) (e : ℤ) → ofBits k x ≡ fin s m e → (h : ℕ) → part m e < 2 ^ h → (s ≡ true → 0 < part m e) → toBits k (ofInt k (toSigned h (ofBits k x))) ≡ truncOf (ours k) x
   pub unsigned-cast : (x m : ℕ) (e : ℤ) → ofBits k x ≡ fin false m e → (h : ℕ) → part m e < 2 ^ h → toBits k (ofInt k (pos (toUnsigned h (ofBits k x)))) ≡ truncOf (ours k) x

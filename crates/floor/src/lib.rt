@@ -1,56 +1,87 @@
 // floor: the greatest whole number not above a number.
 ghost use mathlib.Core.Path.{_≡_};
 ghost use Rattle.ieee.specs.Format.{b64, b32};
+ghost use Rattle.ieee.specs.Pattern.{Pattern};
 ghost use Rattle.ieee.specs.Whole.{floorOf, floorStatus};
+ghost use Rattle.fields.specs.Width.{format, Fits};
+ghost use Rattle.whole.specs.Floors.{belowOne, filled};
+use bits::pow;
 use env::FpResult32;
 use env::FpResult64;
-use point::point::point32;
-use point::point::point64;
-use point::status::status32;
-use point::status::status64;
+use fields::is_negative;
+use point::behind;
+use point::bias;
+use point::by_point;
+use point::exponent_of;
+use point::one_nan;
+use point::signed_zero;
+use point::without;
+use whole::status;
+
+// Between -1 and 1: -1 for what is below -0, and else a zero.
+fn below_one(frac: u32, expo: u32, x: u64) -> u64
+    requires { ⌜ Fits frac expo ⌝ }
+    ensures { λ r. ⌜ r ≡ belowOne (format frac expo) x ⌝ }
+{
+    let top = pow(frac + expo);
+    let minus_one = top + bias(expo) * pow(frac);
+    let zero = signed_zero(frac, expo, x);
+    if x > top {
+        return minus_one;
+    }
+    zero
+}
+
+// Below zero the bits under the mask go up by all ones, so that a cut then goes away from zero.
+fn fill(frac: u32, expo: u32, x: u64, mask: u64) -> u64
+    requires { ⌜ Fits frac expo ⌝ }
+    ensures { λ r. ⌜ r ≡ filled (format frac expo) x mask ⌝ }
+{
+    let up = std::num::wrapping_add_u64(x, mask);
+    if is_negative(frac, expo, x) {
+        return up;
+    }
+    x
+}
+
+fn of_pattern(frac: u32, expo: u32, x: u64) -> u64
+    requires { ⌜ Fits frac expo × Pattern (format frac expo) x ⌝ }
+    ensures { λ r. ⌜ r ≡ floorOf (format frac expo) x ⌝ }
+{
+    let n = exponent_of(frac, expo, x);
+    let mask = behind(frac, n);
+    let part = without(fill(frac, expo, x, mask), mask);
+    let below = below_one(frac, expo, x);
+    let one = one_nan(frac, expo, x);
+    by_point(frac, expo, x, n, below, part, one)
+}
 
 pub fn floor64(x: u64) -> u64
     ensures { λ r. ⌜ r ≡ floorOf b64 x ⌝ }
 {
-    // Between -1 and -0 the answer is -1.
-    if x > 0x8000000000000000 && x < 0xbff0000000000000 {
-        return 0xbff0000000000000;
-    }
-    // Below zero the bits behind the point go up by all ones before they are cut off. One formula serves both signs.
-    let k = point64(x);
-    let sign = x >> 63;
-    let filled: u64 = x + ((sign << k) - sign);
-    (filled >> k) << k
+    of_pattern(52, 11, x)
 }
 
 pub fn floor64_status(x: u64) -> FpResult64
     ensures { λ r. ⌜ (r .val ≡ floorOf b64 x) × (r .status ≡ floorStatus b64 x) ⌝ }
 {
-    let val = floor64(x);
     FpResult64 {
-        val,
-        status: status64(x, val),
+        val: floor64(x),
+        status: status(52, 11, x),
     }
 }
 
 pub fn floor32(x: u32) -> u32
     ensures { λ r. ⌜ r ≡ floorOf b32 x ⌝ }
 {
-    if x > 0x80000000 && x < 0xbf800000 {
-        return 0xbf800000;
-    }
-    let k = point32(x);
-    let sign = x >> 31;
-    let filled: u32 = x + ((sign << k) - sign);
-    (filled >> k) << k
+    of_pattern(23, 8, x as u64) as u32
 }
 
 pub fn floor32_status(x: u32) -> FpResult32
     ensures { λ r. ⌜ (r .val ≡ floorOf b32 x) × (r .status ≡ floorStatus b32 x) ⌝ }
 {
-    let val = floor32(x);
     FpResult32 {
-        val,
-        status: status32(x, val),
+        val: floor32(x),
+        status: status(23, 8, x as u64),
     }
 }

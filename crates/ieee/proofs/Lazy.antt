@@ -11,7 +11,8 @@ use Rattle.ieee.specs.Flags.{none, onlyInexact, wordOf}
 use Rattle.ieee.specs.Sqrt.{sqrtOf, sqrtFlags}
 use Rattle.ieee.specs.Fma.{fmaOf, fmaFlags}
 use Rattle.ieee.specs.Scalbn.{scalbnOf, scalbnFlags}
-use Rattle.ieee.specs.Whole.{floorOf, truncOf, floorFlags, truncFlags}
+use Rattle.ieee.specs.Status.{OK, INEXACT}
+use Rattle.ieee.specs.Whole.{floorOf, truncOf, floorFlags, truncFlags, floorStatus, truncStatus}
 use Rattle.ieee.specs.Fmod.{fmodOf}
 use Rattle.ieee.specs.Remquo.{remquoOf, quotientOf}
 use Rattle.ieee.specs.Refusal.{numberOf}
@@ -31,6 +32,10 @@ two = 0x4000000000000000
 abbrev four : ℕ
 four = 0x4010000000000000
 
+-- a NaN with a sign, that signals
+abbrev marked : ℕ
+marked = 0xfff0000000000001
+
 pub record Lazy : Type 0 where
   -- the canonical NaN to everything
   pub sqrt-nan : sqrtOf b64 one ≡ canonical b64 → ⊥
@@ -40,6 +45,9 @@ pub record Lazy : Type 0 where
   pub scalbn-nan : scalbnOf b64 one (pos 0) ≡ canonical b64 → ⊥
   pub floor-nan : floorOf b64 one ≡ canonical b64 → ⊥
   pub trunc-nan : truncOf b64 one ≡ canonical b64 → ⊥
+  -- a NaN as it came, with its sign and its payload
+  pub floor-nan-kept : floorOf b64 marked ≡ marked → ⊥
+  pub trunc-nan-kept : truncOf b64 marked ≡ marked → ⊥
   -- the quotient always zero
   pub quotient-zero : quotientOf b64 one one ≡ pos 0 → ⊥
   -- every list refused, and every reduction
@@ -48,6 +56,11 @@ pub record Lazy : Type 0 where
   -- the output untouched, and the first place alone filled
   pub list-untouched : listOf b64 1 (four ∷ []) (0 ∷ []) .output ≡ 0 ∷ [] → ⊥
   pub list-first-alone : (r : ℕ) → listOf b64 1 (four ∷ four ∷ []) (0 ∷ 0 ∷ []) .output ≡ r ∷ 0 ∷ [] → ⊥
+  -- always OK, and always INEXACT
+  pub floor-always-ok : floorStatus b64 half ≡ OK → ⊥
+  pub trunc-always-ok : truncStatus b64 half ≡ OK → ⊥
+  pub floor-never-ok : floorStatus b64 one ≡ INEXACT → ⊥
+  pub trunc-never-ok : truncStatus b64 one ≡ INEXACT → ⊥
   -- no flag ever, and always inexact
   pub sqrt-no-flag : sqrtFlags b64 two ≡ none → ⊥
   pub fma-no-flag : fmaFlags b64 one one 1 ≡ none → ⊥
@@ -61,7 +74,7 @@ pub record Lazy : Type 0 where
   pub trunc-always-inexact : truncFlags b64 one ≡ onlyInexact true → ⊥
 
 pub lazy : Lazy
-unfolding sqrtOf fmaOf fmodOf remquoOf quotientOf scalbnOf floorOf truncOf listOf reduceOf sqrtFlags fmaFlags scalbnFlags floorFlags truncFlags
+unfolding sqrtOf fmaOf fmodOf remquoOf quotientOf scalbnOf floorOf truncOf listOf reduceOf sqrtFlags fmaFlags scalbnFlags floorFlags truncFlags floorStatus truncStatus
 lazy =
     record {
       sqrt-nan = λ e. omega (arith, e);
@@ -71,11 +84,17 @@ lazy =
       scalbn-nan = λ e. omega (arith, e);
       floor-nan = λ e. omega (arith, e);
       trunc-nan = λ e. omega (arith, e);
+      floor-nan-kept = λ e. omega (arith, e);
+      trunc-nan-kept = λ e. omega (arith, e);
       quotient-zero = λ e. let z = ap natAbs e in omega (arith, z);
       list-refused = λ n. n refl;
       reduction-refused = λ n. n refl;
       list-untouched = λ e. let z = ap (λ l. getD l 0 0) e in omega (arith, z);
       list-first-alone = λ r e. let z = ap (λ l. getD l 1 0) e in omega (arith, z);
+      floor-always-ok = λ e. omega (arith, e);
+      trunc-always-ok = λ e. omega (arith, e);
+      floor-never-ok = λ e. omega (arith, e);
+      trunc-never-ok = λ e. omega (arith, e);
       sqrt-no-flag = λ e. let z = ap wordOf e in omega (arith, z);
       fma-no-flag = λ e. let z = ap wordOf e in omega (arith, z);
       scalbn-no-flag = λ e. let z = ap wordOf e in omega (arith, z);

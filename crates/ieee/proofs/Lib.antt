@@ -42,6 +42,7 @@ pub mod RoundedCalls
 pub mod WholeParts
 pub mod Wholes
 pub mod WholeFlags
+pub mod WholeStatuses
 pub mod NearestWhole
 pub mod SignedSums
 pub mod Remainders

@@ -10,12 +10,12 @@ use borrow.Author.Tests.{le-ltb, lt-leb, eq-eqb, ne-eqb}
 use Rattle.algebra.proofs.Products.{order, times, times-le, mul-lt-cancel}
 use Rattle.algebra.proofs.Quotients.{div-mod, div-is}
 use Rattle.algebra.proofs.Powers.{pow-diff}
-use Rattle.ieee.specs.Format.{Format, Fair, top, low, inf, units, fields}
-use Rattle.ieee.specs.Pattern.{Pattern, minus, magnitude, signed, nan, infinite, finite, kind, withSign, value}
+use Rattle.ieee.specs.Format.{Format, Fair, top, low, inf, canonical, units, fields}
+use Rattle.ieee.specs.Pattern.{Pattern, minus, magnitude, signed, Kind, nan, infinite, finite, kind, withSign, value}
 use Rattle.ieee.specs.Round.{Way, even, away, shorter, longer, Attribute, wayOf, exactly}
 use Rattle.ieee.specs.Whole.{whole, wholeBy, wholeIn}
 use Rattle.ieee.proofs.Units.{units-is, units-zero, units-lt-inv, units-inf}
-use Rattle.ieee.proofs.Patterns.{inf-below-top, magnitude-signed, minus-signed, pattern-signed, finite-is, zero-is, value-is}
+use Rattle.ieee.proofs.Patterns.{inf-below-top, canonical-pattern, magnitude-signed, minus-signed, pattern-signed, finite-is, zero-is, value-is}
 use Rattle.ieee.proofs.Fixed.{fixed-whole}
 use Rattle.ieee.proofs.Held.{held}
 
@@ -124,9 +124,9 @@ module _ (f : Format) (a : Attribute) where
       let k = times (2 ^ low f) e ∙ zero-mul (2 ^ low f) ∙ sym (units-zero f) in
       wholeIn-finite x u h ∙ ap (signed f (minus f x)) (ap (exactly f) k ∙ fixed-whole f even 0 (omega arith))
 
-  pub nan-stays : (x : ℕ) → kind f x ≡ nan → wholeIn f a x ≡ x
+  pub nan-canonical : (x : ℕ) → kind f x ≡ nan → wholeIn f a x ≡ canonical f
   unfolding wholeIn wholeBy
-  nan-stays x h = rw h
+  nan-canonical x h = rw h
 
   pub infinity-stays : (x : ℕ) → kind f x ≡ infinite → wholeIn f a x ≡ x
   unfolding wholeIn wholeBy
@@ -137,3 +137,12 @@ module _ (f : Format) (a : Attribute) where
       let w = wayOf a (minus f x) in
       let e = ap (λ n. whole w n (2 ^ low f)) (sym (zero-mul (2 ^ low f))) ∙ whole-multiple w 0 (2 ^ low f) (pow-pos (low f)) in
       wholeIn-none x 0 h e ∙ zero-is f x p h
+
+  -- every answer is a pattern
+  pub whole-pattern : Fair f → (x : ℕ) → Pattern f x → Pattern f (wholeIn f a x)
+  whole-pattern g x p = go (kind f x) refl
+    where
+      go : (k : Kind) → kind f x ≡ k → Pattern f (wholeIn f a x)
+      go nan h = rw (nan-canonical x h) (canonical-pattern f)
+      go infinite h = rw (infinity-stays x h) p
+      go (finite u) h = wholeIn-sent g x u h .pattern

@@ -1,10 +1,10 @@
 -- trunc and floor are exact: each gives the one whole number of ones that its rule names. Assumes nothing.
 use Prim.Native.Nat.{ℕ, suc, _+_, _*_, _/_, _%_, _^_, _≤_, _<_}
 use mathlib.Core.Path.{_≡_, refl, sym, ap, _∙_}
-use mathlib.Core.Bool.{Bool, true, false, not, _&&_, cond}
+use mathlib.Core.Bool.{Bool, true, false}
 use native.Mathlib.Nat.{one-mul}
 use native.Mathlib.Omega.{arith}
-use lib.Dec.{eqb, lt→ltb, le→leb}
+use lib.Dec.{lt→ltb, le→leb}
 use lib.Pow.{pow-pos}
 use lib.IntN.{ℤ, pos, negℤ, _+ℤ_, _*ℤ_}
 use lib.Signed.{_≤ℤ_, _<ℤ_}
@@ -12,16 +12,15 @@ use borrow.Author.Tests.{eq-eqb, ne-eqb}
 use Rattle.algebra.proofs.Products.{times, mul-lt-cancel}
 use Rattle.algebra.proofs.Quotients.{div-mod, div-is}
 use Rattle.algebra.proofs.Integers.{up, dn, addZ, negZ, timesZ, eqZ, leZ-fact, ltZ-fact, leZ-of, ltZ-of}
-use Rattle.ieee.specs.Format.{Format, Fair, low, inf, units}
+use Rattle.ieee.specs.Format.{Format, Fair, low, inf, canonical, units}
 use Rattle.ieee.specs.Pattern.{Pattern, minus, magnitude, signed, Kind, nan, infinite, finite, kind, withSign, value}
 use Rattle.ieee.specs.Round.{longer, Attribute, toward-zero, toward-negative, wayOf}
-use Rattle.ieee.specs.Whole.{whole, wholeIn, truncOf, floorOf, wholeStatus, truncStatus, floorStatus}
-use Rattle.ieee.specs.Status.{OK, INEXACT}
+use Rattle.ieee.specs.Whole.{whole, wholeIn, truncOf, floorOf}
 use Rattle.ieee.proofs.Units.{units-inj}
-use Rattle.ieee.proofs.Decide.{Reads, split, is-true, is-false, alike, eqb-reads, and-reads, not-reads}
+use Rattle.ieee.proofs.Decide.{split, eqb-reads}
 use Rattle.ieee.proofs.Patterns.{same-pattern, finite-is, value-is}
 use Rattle.ieee.proofs.Signs.{signed-times, value-tells}
-use Rattle.ieee.proofs.WholeParts.{whole-multiple, sent-value, wholeIn-sent, wholeIn-none, nan-stays, infinity-stays, zero-stays}
+use Rattle.ieee.proofs.WholeParts.{whole-multiple, sent-value, wholeIn-sent, wholeIn-none, nan-canonical, infinity-stays, zero-stays, whole-pattern}
 
 -- r is x cut to a whole number of ones: |k| ≤ |x| < |k| + 1 with the sign kept, and nothing rounded
 pub record Truncated (f : Format) (x r : ℕ) : Type 0 where
@@ -130,45 +129,31 @@ floor-only f x r q a b =
     let k = eqZ (a .k) (b .k) (omega arith) in
     value-only f r q (a .pattern) (b .pattern) (a .sign ∙ sym (b .sign)) (a .counts ∙ ap (λ n. n *ℤ pos (2 ^ low f)) k ∙ sym (b .counts))
 
--- ---- rows: the operation o with its status s; where x changes, its fraction field says whether that is inexact
-pub record WholeRows (f : Format) (o s : ℕ → ℕ) : Type 0 where
-  pub of-nan : (x : ℕ) → kind f x ≡ nan → (o x ≡ x) × (s x ≡ OK)
-  pub of-infinity : (x : ℕ) → kind f x ≡ infinite → (o x ≡ x) × (s x ≡ OK)
-  pub of-zero : (x : ℕ) → Pattern f x → kind f x ≡ finite 0 → (o x ≡ x) × (s x ≡ OK)
-  pub same : (x : ℕ) → o x ≡ x → s x ≡ OK
-  pub changed : (x : ℕ) → (o x ≡ x → ⊥) → x % 2 ^ f .frac ≡ 0 → s x ≡ OK
-  pub changed-fraction : (x : ℕ) → (o x ≡ x → ⊥) → (x % 2 ^ f .frac ≡ 0 → ⊥) → s x ≡ INEXACT
+-- ---- rows: what the operation o makes of NaNs, infinities and zeros
+pub record WholeRows (f : Format) (o : ℕ → ℕ) : Type 0 where
+  pub of-nan : (x : ℕ) → kind f x ≡ nan → o x ≡ canonical f
+  pub of-infinity : (x : ℕ) → kind f x ≡ infinite → o x ≡ x
+  pub of-zero : (x : ℕ) → Pattern f x → kind f x ≡ finite 0 → o x ≡ x
 
-module _ (f : Format) (a : Attribute) where
-  status-same : (x : ℕ) → wholeIn f a x ≡ x → wholeStatus f x (wholeIn f a x) ≡ OK
-  status-same x e = rw (eq-eqb (wholeIn f a x) x e)
+wholeIn-rows : (f : Format) (a : Attribute) → WholeRows f (wholeIn f a)
+wholeIn-rows f a = record { of-nan = nan-canonical f a; of-infinity = infinity-stays f a; of-zero = zero-stays f a }
 
-  -- the status by its test: x was changed, and its fraction field is not zero
-  inexact : Bool → ℕ
-  inexact b = cond b INEXACT OK
-
-  inexact-reads : (x : ℕ) → Reads ((wholeIn f a x ≡ x → ⊥) × (x % 2 ^ f .frac ≡ 0 → ⊥)) (not (eqb (wholeIn f a x) x) && not (eqb (x % 2 ^ f .frac) 0))
-  inexact-reads x = and-reads (not-reads (eqb-reads (wholeIn f a x) x)) (not-reads (eqb-reads (x % 2 ^ f .frac) 0))
-
-  wholeIn-rows : WholeRows f (wholeIn f a) (λ x. wholeStatus f x (wholeIn f a x))
-  unfolding inexact
-  wholeIn-rows =
-      record {
-        of-nan = λ x h. let e = nan-stays f a x h in (e, status-same x e);
-        of-infinity = λ x h. let e = infinity-stays f a x h in (e, status-same x e);
-        of-zero = λ x p h. let e = zero-stays f a x p h in (e, status-same x e);
-        same = status-same;
-        changed = λ x n e. ap inexact (is-false (inexact-reads x) (λ h. h .1 e));
-        changed-fraction = λ x n m. ap inexact (is-true (inexact-reads x) (n, m));
-      }
-
-pub trunc-rows : (f : Format) → WholeRows f (truncOf f) (truncStatus f)
-unfolding truncOf truncStatus
+pub trunc-rows : (f : Format) → WholeRows f (truncOf f)
+unfolding truncOf
 trunc-rows f = wholeIn-rows f toward-zero
 
-floor-whole-rows : (f : Format) → WholeRows f (floorOf f) (floorStatus f)
-unfolding floorOf floorStatus
+floor-whole-rows : (f : Format) → WholeRows f (floorOf f)
+unfolding floorOf
 floor-whole-rows f = wholeIn-rows f toward-negative
+
+-- every answer is a pattern
+pub trunc-pattern : (f : Format) → Fair f → (x : ℕ) → Pattern f x → Pattern f (truncOf f x)
+unfolding truncOf
+trunc-pattern f g x p = whole-pattern f toward-zero g x p
+
+pub floor-pattern : (f : Format) → Fair f → (x : ℕ) → Pattern f x → Pattern f (floorOf f x)
+unfolding floorOf
+floor-pattern f g x p = whole-pattern f toward-negative g x p
 
 -- ---- floor between -1 and 1
 floor-above-zero : (f : Format) (x u : ℕ) → kind f x ≡ finite u → u < 2 ^ low f → minus f x ≡ false → floorOf f x ≡ 0
@@ -194,17 +179,17 @@ floor-below-zero f g x u h p l s =
 
 -- ---- floor has two rows more: a value in (0, 1) gives +0, and a value in (-1, 0) gives -1
 pub record FloorRows (f : Format) : Type 0 where
-  pub rows : WholeRows f (floorOf f) (floorStatus f)
+  pub rows : WholeRows f (floorOf f)
   pub above-zero : (x u : ℕ) → kind f x ≡ finite u → u < 2 ^ low f → minus f x ≡ false → floorOf f x ≡ 0
   pub below-zero : (x u : ℕ) → kind f x ≡ finite u → 0 < u → u < 2 ^ low f → minus f x ≡ true → value f (floorOf f x) ≡ negℤ (pos (2 ^ low f))
 
 pub floor-rows : (f : Format) → Fair f → FloorRows f
 floor-rows f g = record { rows = floor-whole-rows f; above-zero = floor-above-zero f; below-zero = floor-below-zero f g }
 
--- ---- a number that stays under one attribute is whole, and stays under every other; so trunc and floor have one status
+-- ---- what stays under one attribute stays under every other
 module _ (f : Format) (g : Fair f) (a b : Attribute) (x : ℕ) (p : Pattern f x) where
   stays-by : (k : Kind) → kind f x ≡ k → wholeIn f a x ≡ x → wholeIn f b x ≡ x
-  stays-by nan h e = nan-stays f b x h
+  stays-by nan h e = nan-canonical f b x h ∙ sym (nan-canonical f a x h) ∙ e
   stays-by infinite h e = infinity-stays f b x h
   stays-by (finite u) h e =
       let s = wholeIn-sent f a g x u h in
@@ -219,10 +204,3 @@ module _ (f : Format) (g : Fair f) (a b : Attribute) (x : ℕ) (p : Pattern f x)
 
   pub stays-alike : wholeIn f a x ≡ x → wholeIn f b x ≡ x
   stays-alike e = stays-by (kind f x) refl e
-
-pub statuses-alike : (f : Format) → Fair f → (x : ℕ) → Pattern f x → floorStatus f x ≡ truncStatus f x
-unfolding floorOf truncOf floorStatus truncStatus
-statuses-alike f g x p =
-    ap (λ s. cond (not s && not (eqb (x % 2 ^ f .frac) 0)) INEXACT OK)
-    (alike (eqb-reads (wholeIn f toward-negative x) x) (eqb-reads (wholeIn f toward-zero x) x)
-    (stays-alike f g toward-negative toward-zero x p, stays-alike f g toward-zero toward-negative x p))

@@ -13,6 +13,7 @@ pub mod Scalbn
 pub mod Rounded
 pub mod FlagRows
 pub mod Whole
+pub mod StatusRows
 pub mod Fmod
 pub mod Remquo
 pub mod Refusal

@@ -2,7 +2,7 @@
 use Prim.Native.Nat.{ℕ, _+_, _*_, _/_, _%_, _^_}
 use mathlib.Core.Bool.{not, _&&_, _||_, cond}
 use lib.Dec.{leb, ltb, eqb}
-use Rattle.ieee.specs.Format.{Format, low}
+use Rattle.ieee.specs.Format.{Format, low, canonical}
 use Rattle.ieee.specs.Pattern.{Kind, nan, infinite, finite, kind, minus, signed}
 use Rattle.ieee.specs.Round.{Way, even, away, shorter, longer, Attribute, toward-zero, toward-negative, wayOf, rounded, exactly}
 use Rattle.ieee.specs.Flags.{Flags, none, onlyInexact, nanFlags, signals}
@@ -15,10 +15,10 @@ whole away n d = n / d + cond (leb d (2 * (n % d))) 1 0
 whole shorter n d = n / d
 whole longer n d = n / d + cond (eqb (n % d) 0) 0 1
 
--- x with its magnitude sent the way w to a whole number; infinities and NaNs stay
+-- x with its magnitude sent the way w to a whole number; infinities stay, and every NaN gives the canonical one
 unfoldable pub wholeBy : Format → Way → ℕ → Kind → ℕ
 unfolding rounded
-wholeBy f w x nan = x
+wholeBy f w x nan = canonical f
 wholeBy f w x infinite = x
 wholeBy f w x (finite u) = signed f (minus f x) (exactly f (whole w u (2 ^ low f) * 2 ^ low f))
 
@@ -33,18 +33,6 @@ truncOf f x = wholeIn f toward-zero x
 unfoldable pub floorOf : Format → ℕ → ℕ
 unfolding wholeIn
 floorOf f x = wholeIn f toward-negative x
-
--- the status of the answer r to x: where the value changed, INEXACT if the fraction field is not zero
-abbrev pub wholeStatus : Format → ℕ → ℕ → ℕ
-wholeStatus f x r = cond (not (eqb r x) && not (eqb (x % 2 ^ f .frac) 0)) INEXACT OK
-
-unfoldable pub truncStatus : Format → ℕ → ℕ
-unfolding truncOf
-truncStatus f x = wholeStatus f x (truncOf f x)
-
-unfoldable pub floorStatus : Format → ℕ → ℕ
-unfolding floorOf
-floorStatus f x = wholeStatus f x (floorOf f x)
 
 -- ---- the flags: invalid for a signalling NaN, and inexact exactly where a finite operand x is changed, to r
 unfoldable pub wholeFlagsBy : Format → ℕ → ℕ → Kind → Flags
@@ -63,3 +51,15 @@ truncFlags f x = wholeFlagsIn f toward-zero x
 unfoldable pub floorFlags : Format → ℕ → Flags
 unfolding wholeFlagsIn
 floorFlags f x = wholeFlagsIn f toward-negative x
+
+-- ---- the status of the answer r to x: INEXACT where inexact is raised, and OK where it is not
+abbrev pub wholeStatus : Format → ℕ → ℕ → ℕ
+wholeStatus f x r = cond (wholeFlagsBy f x r (kind f x) .inexact) INEXACT OK
+
+unfoldable pub truncStatus : Format → ℕ → ℕ
+unfolding truncOf wholeFlagsBy kind
+truncStatus f x = wholeStatus f x (truncOf f x)
+
+unfoldable pub floorStatus : Format → ℕ → ℕ
+unfolding floorOf wholeFlagsBy kind
+floorStatus f x = wholeStatus f x (floorOf f x)

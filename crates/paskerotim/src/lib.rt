@@ -78,13 +78,11 @@ pub extern "C" fn pk_floor64(x: u64) -> u64
     floor64(x)
 }
 
-// floor and trunc change the same numbers, so that their statuses are one, and trunc is the quicker to compute.
 #[no_mangle]
 pub extern "C" fn pk_floor64_status(x: u64) -> u32
     ensures { λ r. ⌜ r ≡ floorStatus b64 x ⌝ }
 {
-    let as_trunc = trunc64_status(x);
-    as_trunc.status
+    floor64_status(x).status
 }
 
 #[no_mangle]
@@ -98,8 +96,7 @@ pub extern "C" fn pk_floor32(x: u32) -> u32
 pub extern "C" fn pk_floor32_status(x: u32) -> u32
     ensures { λ r. ⌜ r ≡ floorStatus b32 x ⌝ }
 {
-    let as_trunc = trunc32_status(x);
-    as_trunc.status
+    floor32_status(x).status
 }
 
 #[no_mangle]

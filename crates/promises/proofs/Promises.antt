@@ -12,7 +12,7 @@ use lib.Dec.{eqb, lit<}
 use lib.IntN.{ℤ}
 use lib.Ieee.{binary64, binary32}
 use Rattle.ieee.specs.Format.{Format, b64, b32, b16, inf, canonical, units, Fair}
-use Rattle.ieee.specs.Pattern.{minus, magnitude, finite, kind}
+use Rattle.ieee.specs.Pattern.{minus, magnitude, nan, finite, kind}
 use Rattle.ieee.specs.Exact.{Value, absolute}
 use Rattle.ieee.specs.Round.{Way, Attribute, ties-to-even, toward-positive, toward-negative, answer}
 use Rattle.ieee.specs.Rule.{Ties, to-even, tiesAttribute, Once, RuleIn}
@@ -24,7 +24,8 @@ use Rattle.ieee.specs.Rounded.{sqrtRounded, fmaRounded, scalbnRounded, ByNumber
 use Rattle.ieee.specs.Sqrt.{sqrtOf, sqrtStatus, sqrtIn, sqrtFlagsIn, exactSqrt}
 use Rattle.ieee.specs.Fma.{fmaOf, fmaIn, fmaFlagsIn, exactFma, zeroSign}
 use Rattle.ieee.specs.Scalbn.{scalbnOf, scalbnIn, scalbnFlagsIn, exactScalbn}
-use Rattle.ieee.specs.Whole.{truncOf, truncStatus, truncFlags, floorOf, floorFlags, wholeFlagsIn}
+use Rattle.ieee.specs.Whole.{truncOf, truncStatus, truncFlags, floorOf, floorStatus, floorFlags, wholeFlagsIn}
+use Rattle.ieee.specs.StatusRows.{WholeStatusRows}
 use Rattle.ieee.specs.Fmod.{fmodOf}
 use Rattle.ieee.specs.Remquo.{remquoOf, quotientOf}
 use Rattle.ieee.specs.Refusal.{Refusal, given, Answer, numberOf, valueOf}
@@ -50,6 +51,7 @@ use Rattle.ieee.proofs.ScalbnFlags.{scalbn-flags-rule, scalbn-flag-rows, scalbn
 use Rattle.ieee.proofs.RoundedCalls.{sqrt-by-number, fma-by-number, scalbn-by-number}
 use Rattle.ieee.proofs.Wholes.{Truncated, Floored, WholeRows, FloorRows, trunc-is, trunc-only, trunc-rows, floor-is, floor-only, floor-rows}
 use Rattle.ieee.proofs.WholeFlags.{whole-clean, trunc-flag-rows, floor-flag-rows}
+use Rattle.ieee.proofs.WholeStatuses.{trunc-status-rows, floor-status-rows}
 use Rattle.ieee.proofs.Remainders.{Left, FmodRows, fmod-is, fmod-only, fmod-rows}
 use Rattle.ieee.proofs.Remquos.{NearestLeft, RemquoRows, remquo-is, remquo-only, remquo-rows}
 use Rattle.ieee.proofs.Reductions.{ReducedAs, reduction-is, reduction-only}
@@ -83,7 +85,7 @@ pub numbers-are-as-given : Numbers64 × Numbers32 × Statuses × Limits
 numbers-are-as-given = (numbers64, numbers32, statuses, limits)
 
 -- ======== 1. Every pattern is answered. What cannot be answered is refused by a number, the first that applies, and a refusal changes nothing.
--- what every operation gives for NaNs, infinities and zeros, with its status, row by row
+-- what every operation gives for NaNs, infinities and zeros, sqrt with its status, row by row
 pub sqrt-by-rows : (f : Format) → SqrtRows f ties-to-even
 sqrt-by-rows f = sqrt-rows f ties-to-even
 
@@ -102,8 +104,27 @@ remquo-by-rows f = remquo-rows f
 pub floor-by-rows : (f : Format) → Fair f → FloorRows f
 floor-by-rows f g = floor-rows f g
 
-pub trunc-by-rows : (f : Format) → WholeRows f (truncOf f) (truncStatus f)
+pub trunc-by-rows : (f : Format) → WholeRows f (truncOf f)
 trunc-by-rows f = trunc-rows f
+
+-- a NaN among the operands gives the canonical NaN, in all seven operations
+pub every-nan-is-canonical : (f : Format) → Fair f → (x y z : ℕ) (n : ℤ) → kind f x ≡ nan
+    → (sqrtOf f x ≡ canonical f) × (fmaOf f x y z ≡ canonical f) × (fmaOf f y x z ≡ canonical f) × (fmaOf f y z x ≡ canonical f) × (fmodOf f x y ≡ canonical f) × (fmodOf f y x ≡ canonical f)
+    × (remquoOf f x y ≡ canonical f) × (remquoOf f y x ≡ canonical f) × (scalbnOf f x n ≡ canonical f) × (floorOf f x ≡ canonical f) × (truncOf f x ≡ canonical f)
+unfolding sqrtOf fmaOf scalbnOf
+every-nan-is-canonical f g x y z n h = (
+  sqrt-by-rows f .of-nan x h .0,
+  fma-by-rows f x y z .nan-first h,
+  fma-by-rows f y x z .nan-second h,
+  fma-by-rows f y z x .nan-third h,
+  fmod-by-rows f .nan-x x y h,
+  fmod-by-rows f .nan-y y x h,
+  remquo-by-rows f .nan-x x y h .0,
+  remquo-by-rows f .nan-y y x h .0,
+  scalbn-by-rows f g x n .of-nan h,
+  floor-by-rows f g .rows .of-nan x h,
+  trunc-by-rows f .of-nan x h,
+)
 
 -- of any list of refusals, a number is given exactly when its reason holds and none before it does
 pub refusals-go-by-number : (rs : List Refusal) (k : ℕ) → 0 < k → (given rs ≡ k) ↔ First rs k
@@ -134,6 +155,14 @@ floor-is-exact f g x u h = (floor-is f g x u h, λ q a. floor-only f x q (floorO
 -- the whole k with |k| ≤ |x| < |k| + 1, the sign kept; and no other pattern
 pub trunc-is-exact : (f : Format) → Fair f → (x u : ℕ) → kind f x ≡ finite u → Only (Truncated f x) (truncOf f x)
 trunc-is-exact f g x u h = (trunc-is f g x u h, λ q a. trunc-only f x q (truncOf f x) a (trunc-is f g x u h))
+
+-- code: floor64_status, floor32_status (crates/floor), trunc64_status, trunc32_status (crates/trunc)
+-- their statuses: of a finite operand INEXACT exactly where the answer is another number, and else OK; of an infinity or a NaN always OK
+pub floor-status-tells-change : (f : Format) → Fair f → WholeStatusRows f (floorOf f) (floorStatus f)
+floor-status-tells-change = floor-status-rows
+
+pub trunc-status-tells-change : (f : Format) → Fair f → WholeStatusRows f (truncOf f) (truncStatus f)
+trunc-status-tells-change = trunc-status-rows
 
 -- code: fmod64, fmod32 (crates/fmod)
 -- |x| = n |y| + |r| with |r| < |y|, the sign of x; and no other pattern
@@ -299,7 +328,7 @@ worked-cases-hold = cases
 pub flag-cases-hold : FlagCases
 flag-cases-hold = flag-cases
 
--- no lazy answer is the definition's: the canonical NaN to everything, a quotient always zero, all refused, the output untouched, the first place alone filled, no flag ever, always inexact
+-- no lazy answer is the definition's: the canonical NaN to everything, a NaN as it came, a quotient always zero, all refused, the output untouched, the first place alone filled, always OK, no flag ever, always inexact
 pub lazy-answers-differ : Lazy
 lazy-answers-differ = lazy
 

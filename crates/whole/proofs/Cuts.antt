@@ -6,7 +6,7 @@ use native.Mathlib.Nat.{two-pow-succ}
 use native.Mathlib.Omega.{arith, both-ways}
 use lib.Pow.{pow-add, pow-pos, pow-mono}
 use Rattle.algebra.proofs.Products.{order, times, times-le, diff}
-use Rattle.algebra.proofs.Quotients.{div-mod, div-is}
+use Rattle.algebra.proofs.Quotients.{div-is}
 use Rattle.algebra.proofs.Powers.{pow-diff}
 use Rattle.ieee.specs.Format.{Format, Fair, top, bias, low, inf, units, fields}
 use Rattle.ieee.specs.Pattern.{Pattern, minus, magnitude, field, fraction, signed}
@@ -16,8 +16,9 @@ use Rattle.ieee.proofs.Units.{units-at, units-zero, units-lt}
 use Rattle.ieee.proofs.Fields.{magnitude-fields, fraction-small, units-of-fields}
 use Rattle.ieee.proofs.Patterns.{signed-is, kind-finite, kind-infinite, kind-nan}
 use Rattle.ieee.proofs.Fixed.{fixed-whole}
-use Rattle.ieee.proofs.WholeParts.{whole-multiple, wholeIn-finite, nan-stays, infinity-stays}
-use Rattle.point.specs.Point.{Point, none, all, part}
+use Rattle.ieee.proofs.WholeParts.{whole-multiple, wholeIn-finite, nan-canonical, infinity-stays}
+use Rattle.point.specs.Point.{oneNan}
+use Rattle.point.proofs.Choices.{past-infinity, not-past}
 use Rattle.whole.proofs.Scaled.{cut-after, cut-between, shorter-scaled}
 
 module _ (f : Format) (g : Fair f) where
@@ -32,7 +33,7 @@ module _ (f : Format) (g : Fair f) where
       ∙ ap (λ u. signed f (minus f x) (exactly f u)) (sym e)
       ∙ ap (signed f (minus f x)) (fixed-whole f even n (omega arith))
 
-  -- ---- a number with no bit behind the point stays, whatever the attribute
+  -- ---- what has no bit behind the point stays, whatever the attribute, but for a NaN
   fields-multiple : (q t : ℕ) → bias f + f .frac ≤ q → (k : ℕ) × (fields (2 ^ f .frac) q t ≡ k * 2 ^ low f)
   fields-multiple zero t h = absurd (omega (arith, two-le))
   fields-multiple (suc e) t h =
@@ -47,13 +48,13 @@ module _ (f : Format) (g : Fair f) where
       let v = ap (λ n. whole w n (2 ^ low f)) u ∙ whole-multiple w k (2 ^ low f) (pow-pos (low f)) in
       wholeIn-at a x m l l (u ∙ times (2 ^ low f) (sym v)) ∙ signed-is f x p
 
-  pub stays : (a : Attribute) (x : ℕ) → Pattern f x → bias f + f .frac ≤ field f x → wholeIn f a x ≡ x
+  pub stays : (a : Attribute) (x : ℕ) → Pattern f x → bias f + f .frac ≤ field f x → wholeIn f a x ≡ oneNan f x
   stays a x p h =
       order (suc (magnitude f x)) (inf f)
-      (finite-stays a x p h)
+      (λ l. finite-stays a x p h l ∙ sym (not-past f x (omega arith)))
       (λ l. order (magnitude f x) (inf f)
-      (λ i. infinity-stays f a x (kind-infinite f x (both-ways (magnitude f x) (inf f) i (omega arith))))
-      (λ i. nan-stays f a x (kind-nan f x i)))
+      (λ i. infinity-stays f a x (kind-infinite f x (both-ways (magnitude f x) (inf f) i (omega arith))) ∙ sym (not-past f x i))
+      (λ i. nan-canonical f a x (kind-nan f x i) ∙ sym (past-infinity f x i)))
 
   -- ---- units by the significand: the exponent field less one, and from 2 ^ frac to twice that
   units-normal : (c n : ℕ) → 2 ^ f .frac ≤ n → n ≤ 2 * 2 ^ f .frac → units f (c * 2 ^ f .frac + n) ≡ n * 2 ^ c
@@ -121,14 +122,8 @@ module _ (f : Format) (g : Fair f) where
   part-bits x k l e = omega (arith, two-le)
 
   -- ---- toward zero: every bit behind the point is cut off
-  none-cut : (x k : ℕ) → k ≡ 0 → x ≡ x / 2 ^ k * 2 ^ k
-  none-cut x k e = rw e (omega arith)
-
-  sign-left : (x : ℕ) → Pattern f x → signed f (minus f x) 0 ≡ x / top f * top f
-  sign-left x p = omega (arith, signed-is f x p, div-mod x (top f) (pow-pos (f .frac + f .expo)))
-
-  all-cut : (a : Attribute) (x : ℕ) → Pattern f x → wayOf a (minus f x) ≡ shorter → field f x < bias f → wholeIn f a x ≡ x / top f * top f
-  all-cut a x p w h =
+  pub shorter-all : (a : Attribute) (x : ℕ) → Pattern f x → wayOf a (minus f x) ≡ shorter → field f x < bias f → wholeIn f a x ≡ x - magnitude f x
+  shorter-all a x p w h =
       let u = units f (magnitude f x) in
       let t = magnitude-fields f x in
       let r = fraction-small f x in
@@ -136,11 +131,9 @@ module _ (f : Format) (g : Fair f) where
       let z : u / 2 ^ low f ≡ 0 = div-is u (2 ^ low f) 0 u b (omega arith) .0 in
       let i = far (field f x) (omega arith) in
       let v = ap (λ d. whole d u (2 ^ low f)) w ∙ z in
-      wholeIn-at a x 0 (omega arith) (omega arith) (units-zero f ∙ omega (arith, times (2 ^ low f) v)) ∙ sign-left x p
+      wholeIn-at a x 0 (omega arith) (omega arith) (units-zero f ∙ omega (arith, times (2 ^ low f) v)) ∙ omega (arith, signed-is f x p)
 
-  pub shorter-cut : (a : Attribute) (x k : ℕ) → Pattern f x → wayOf a (minus f x) ≡ shorter → Point f x k → wholeIn f a x ≡ x / 2 ^ k * 2 ^ k
-  shorter-cut a x k p w (none h e) = stays a x p h ∙ none-cut x k e
-  shorter-cut a x k p w (all h e) = rw e (all-cut a x p w h)
-  shorter-cut a x k p w (part h i e) =
+  pub shorter-part : (a : Attribute) (x k : ℕ) → Pattern f x → wayOf a (minus f x) ≡ shorter → bias f ≤ field f x → 1 ≤ k → field f x + k ≡ bias f + f .frac → wholeIn f a x ≡ x / 2 ^ k * 2 ^ k
+  shorter-part a x k p w h i e =
       part-cut a x k 0 p h i e (pow-pos k) (λ n t q. ap (λ d. whole d (n * t) (2 ^ k * t)) w ∙ shorter-scaled n (2 ^ k) t (pow-pos k) q)
       ∙ ap (λ n. n / 2 ^ k * 2 ^ k) (omega arith)

@@ -1,1 +1,18 @@
-// trunc and floor by the place of the point in a pattern: the lemmas.
+// What trunc and floor share: the status, and the laws by which both are proved.
+ghost use mathlib.Core.Path.{_≡_};
+ghost use Rattle.ieee.specs.Pattern.{Pattern};
+ghost use Rattle.ieee.specs.Whole.{truncStatus, floorStatus};
+ghost use Rattle.fields.specs.Width.{format, Fits};
+use point::tail;
+use point::under;
+
+// The status of trunc and of floor, which change the same numbers: INEXACT where trunc cuts off what is not zero. It cuts nothing off infinities and NaNs.
+pub fn status(frac: u32, expo: u32, x: u64) -> u32
+    requires { ⌜ Fits frac expo × Pattern (format frac expo) x ⌝ }
+    ensures { λ r. ⌜ (r ≡ truncStatus (format frac expo) x) × (r ≡ floorStatus (format frac expo) x) ⌝ }
+{
+    if under(x, tail(frac, expo, x)) == 0 {
+        return env::OK;
+    }
+    env::INEXACT
+}

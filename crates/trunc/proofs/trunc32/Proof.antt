@@ -1,25 +1,20 @@
--- `trunc::trunc32` meets its contract. Assumes nothing.
+-- The answer is a pattern of 32 bits, so that narrowing keeps it (ieee: Wholes). Assumes nothing.
 use native.Mathlib.Omega.{arith}
 use borrow.Author.Needs.{needs}
 use Rattle.ieee.specs.Format.{b32}
 use Rattle.ieee.proofs.Formats.{fair32}
-use Rattle.whole.proofs.Method.{point-at, trunc-cut}
+use Rattle.ieee.proofs.Wholes.{trunc-pattern}
 use Rattle.trunc.proofs.trunc32.Statement.{statement}
 use Rattle.trunc.proofs.trunc32.Tie as tie
 
-point32-requires : tie.Need-point32-requires
-point32-requires c κs = search needs
+of-pattern-requires : tie.Need-of-pattern-requires
+of-pattern-requires c κs = search needs
 
-shr-kept : tie.Need-shr-kept
-shr-kept c = search needs
-
-shl-result : tie.Need-shl-result
-shl-result c = search needs
+cast-result : tie.Need-cast-result
+cast-result c = record { fits = omega (arith, c .of-pattern .ensures, trunc-pattern b32 fair32 (c .before .args .x) (omega arith)) }
 
 returns : tie.Need-returns
-returns c =
-    let x = c .before .args .x in
-    omega (arith, trunc-cut b32 fair32 x (c .point32 .result) (omega arith) (point-at x (omega arith) (c .point32 .ensures .0)))
+returns c = search needs
 
 pub trunc32-spec : {M : Type 1} → statement M
-trunc32-spec = tie.close (tie.spec point32-requires shr-kept shl-result returns)
+trunc32-spec = tie.close (tie.spec of-pattern-requires cast-result returns)
