@@ -59,9 +59,13 @@ pub fn trunc(format: Format, x: u64) -> (u64, Status) {
     to_integer(format, x, false)
 }
 
-/// The integer next to x, away from zero or toward it, with the sign of x.
+/// The integer next to x, away from zero or toward it, with the sign of x. It
+/// is INEXACT where a finite x is no integer; a NaN of either sort is OK.
 fn to_integer(format: Format, x: u64, away: bool) -> (u64, Status) {
-    if !format.is_finite(x) {
+    if format.is_nan(x) {
+        return (format.canonical_nan(), OK);
+    }
+    if format.is_infinite(x) {
         return (x, OK);
     }
     let units = format.units(x);
@@ -74,10 +78,7 @@ fn to_integer(format: Format, x: u64, away: bool) -> (u64, Status) {
         true => whole.add(&Big::from(1)).shl(format.unit_shift()),
         false => back,
     };
-    // The status follows the fraction field, not the value: by this rule floor
-    // of one half says OK.
-    let status = if format.fraction_field(x) != 0 { INEXACT } else { OK };
-    (format.sign(x) | exact(format, &units), status)
+    (format.sign(x) | exact(format, &units), INEXACT)
 }
 
 pub fn scalbn(format: Format, x: u64, n: i32) -> u64 {

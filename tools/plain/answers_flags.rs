@@ -168,8 +168,11 @@ fn rounded_sum(
 
 /// The integer next to x, away from zero or toward it, with the sign of x.
 pub fn to_integer(format: Format, x: u64, away: bool) -> (u64, Flags) {
-    if !format.is_finite(x) {
-        return (x, if format.is_signalling(x) { Flags::INVALID } else { Flags::NONE });
+    if let Some(answer) = for_nan(format, &[x]) {
+        return answer;
+    }
+    if format.is_infinite(x) {
+        return (x, Flags::NONE);
     }
     let (significand, exponent) = format.significand(x);
     if exponent >= 0 || significand == 0 {

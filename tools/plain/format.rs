@@ -96,6 +96,11 @@ impl Format {
         self.magnitude(pattern) == 0
     }
 
+    /// The same pattern; any two NaNs count as equal.
+    pub fn same_value(self, first: u64, second: u64) -> bool {
+        first == second || self.is_nan(first) && self.is_nan(second)
+    }
+
     /// The magnitude of a finite pattern: the first times 2 to the second.
     pub fn significand(self, pattern: u64) -> (u64, i64) {
         let lowest = -(self.unit_shift() as i64);

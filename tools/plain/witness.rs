@@ -5,7 +5,6 @@ use crate::attributes::Attribute;
 use crate::big::Big;
 use crate::cases::Requests;
 use crate::cases_flags::Drawing;
-use crate::format::Format;
 use crate::forms::forms;
 use crate::lines::{write_fields, write_request};
 use crate::operations::{Field, Form, Operation, Task, OPERATIONS};
@@ -86,11 +85,6 @@ fn library(operation: &Operation, operands: &[Field]) -> Option<(u64, i32)> {
         64 => library_64(operation.task, &words, power),
         _ => library_32(operation.task, &words, power),
     }
-}
-
-/// Two NaNs are equal here whatever their bits: C does not settle them.
-fn same_value(format: Format, first: u64, second: u64) -> bool {
-    first == second || (format.is_nan(first) && format.is_nan(second))
 }
 
 /// C promises the sign of the quotient and its magnitude modulo 8.
@@ -176,7 +170,7 @@ fn disagreement(operation: &Operation, operands: &[Field], judged: &[Field]) -> 
                     let pairs = || words.iter().zip(&other);
                     *first == refusal
                         && words.len() == other.len()
-                        && pairs().all(|(one, two)| same_value(format, *one, *two))
+                        && pairs().all(|(one, two)| format.same_value(*one, *two))
                 }
                 _ => false,
             };
@@ -192,7 +186,8 @@ fn disagreement(operation: &Operation, operands: &[Field], judged: &[Field]) -> 
                 [Field::Signed(own)] => format.is_nan(*value) || same_quotient(*own, quotient),
                 _ => true,
             };
-            let same = agreed && same_value(format, *value, other);
+            // Nor does C settle the bits of a NaN.
+            let same = agreed && format.same_value(*value, other);
             (!same).then(|| format!("value {other:x} quotient {quotient}"))
         }
         _ => Some("no second answer".to_string()),

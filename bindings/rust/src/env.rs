@@ -24,7 +24,7 @@ pub enum Status {
     Ok = 0,
     /// Number 1: the root of a NaN or of a number below zero.
     Invalid = 1,
-    /// Number 32: floor or trunc of an operand that changed and whose fraction field is not zero.
+    /// Number 32: floor or trunc of a finite operand that is changed.
     Inexact = 32,
 }
 

@@ -5,7 +5,7 @@ use crate::{FpResult, Status};
 
 /// The greatest whole number that is not above `x`, exactly, on patterns of 64 bits.
 ///
-/// Zeros of either sign and infinities are returned as they are, and so is a NaN, bit for bit.
+/// Zeros of either sign and infinities are returned as they are. A NaN gives the canonical NaN.
 /// Between 0 and 1 the answer is +0, between -1 and 0 it is -1.
 ///
 /// ```
@@ -21,17 +21,14 @@ pub fn floor32(x: u32) -> u32 {
     raw::pk_floor32(x)
 }
 
-/// What [`floor64`] gives, with its status: [`Status::Inexact`] where the answer is another pattern
-/// than `x` and the fraction field of `x`, its low 52 bits, is not zero; [`Status::Ok`] for all
-/// else.
-///
-/// So the floor of 0.75 is inexact, but that of 0.5, whose fraction field is zero, is not.
+/// What [`floor64`] gives, with its status: [`Status::Inexact`] where `x` is finite and the answer is
+/// another pattern; [`Status::Ok`] for all else, NaNs too.
 ///
 /// ```
 /// use paskerotim::{floor64_status, FpResult, Status};
 ///
-/// assert_eq!(floor64_status(0x3fe8000000000000), FpResult { value: 0, status: Status::Inexact });
-/// assert_eq!(floor64_status(0x3fe0000000000000), FpResult { value: 0, status: Status::Ok });
+/// assert_eq!(floor64_status(0x3fe0000000000000), FpResult { value: 0, status: Status::Inexact });
+/// assert_eq!(floor64_status(0x0000000000000000), FpResult { value: 0, status: Status::Ok });
 /// ```
 pub fn floor64_status(x: u64) -> FpResult<u64> {
     FpResult {
@@ -40,8 +37,7 @@ pub fn floor64_status(x: u64) -> FpResult<u64> {
     }
 }
 
-/// What [`floor32`] gives, with its status: that of [`floor64_status`], with a fraction field of 23
-/// bits.
+/// What [`floor32`] gives, with its status, by the rule of [`floor64_status`].
 pub fn floor32_status(x: u32) -> FpResult<u32> {
     FpResult {
         value: floor32(x),

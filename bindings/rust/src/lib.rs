@@ -17,8 +17,7 @@
 //! largest finite number and the power of two above it the answer is infinity. A value that rounds
 //! to zero gives a zero with the value's sign.
 //!
-//! The *canonical NaN* is [`NAN64`] or [`NAN32`]. It is the only NaN that sqrt, fma, fmod, remquo
-//! and scalbn answer; floor and trunc return a NaN as it is, bit for bit.
+//! The *canonical NaN* is [`NAN64`] or [`NAN32`]. It is the only NaN that any operation answers.
 //!
 //! The functions under the names of the crate libm, [`sqrt`], [`sqrtf`], [`remquo`] and so on, take
 //! and give `f64` and `f32` with libm's types. They are the functions on patterns between `to_bits`

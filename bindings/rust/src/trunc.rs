@@ -5,7 +5,7 @@ use crate::{FpResult, Status};
 
 /// `x` without its fraction, exactly, with the sign of `x`, on patterns of 64 bits.
 ///
-/// Zeros of either sign and infinities are returned as they are, and so is a NaN, bit for bit.
+/// Zeros of either sign and infinities are returned as they are. A NaN gives the canonical NaN.
 /// Between -1 and 0 the answer is -0.
 ///
 /// ```
@@ -21,9 +21,8 @@ pub fn trunc32(x: u32) -> u32 {
     raw::pk_trunc32(x)
 }
 
-/// What [`trunc64`] gives, with its status: [`Status::Inexact`] where the answer is another pattern
-/// than `x` and the fraction field of `x`, its low 52 bits, is not zero; [`Status::Ok`] for all
-/// else.
+/// What [`trunc64`] gives, with its status: [`Status::Inexact`] where `x` is finite and the answer is
+/// another pattern; [`Status::Ok`] for all else, NaNs too.
 pub fn trunc64_status(x: u64) -> FpResult<u64> {
     FpResult {
         value: trunc64(x),
@@ -31,8 +30,7 @@ pub fn trunc64_status(x: u64) -> FpResult<u64> {
     }
 }
 
-/// What [`trunc32`] gives, with its status: that of [`trunc64_status`], with a fraction field of 23
-/// bits.
+/// What [`trunc32`] gives, with its status, by the rule of [`trunc64_status`].
 pub fn trunc32_status(x: u32) -> FpResult<u32> {
     FpResult {
         value: trunc32(x),
