@@ -2,17 +2,18 @@
 //! is whether the operands that are drawn meet it.
 
 use crate::faults_rounded::{FUSED, OF_FUSED, OF_ROOTS, ROOTS};
+use crate::faults_whole::{OF_WHOLES, WHOLES};
 use crate::format::{Format, WIDTH_32, WIDTH_64};
-use crate::kinds::{KINDS, kind_of};
+use crate::kinds::{kind_of, known_of};
 use crate::request::{Answer, Request};
 use crate::run::{operation_of, requests, same};
 use crate::table;
 
 pub struct Fault {
-    rows: &'static [&'static str],
-    what: &'static str,
+    pub rows: &'static [&'static str],
+    pub what: &'static str,
     /// Changes an exact answer where the fault strikes.
-    spoil: fn(Format, &Request, &mut Answer),
+    pub spoil: fn(Format, &Request, &mut Answer),
 }
 
 pub const fn fault(
@@ -134,7 +135,8 @@ fn is_tie(format: Format, request: &Request) -> bool {
 #[test]
 fn each_fault_is_met() {
     let mut tried = 0;
-    for Fault { rows, what, spoil } in FAULTS.iter().chain(&OF_ROOTS).chain(&OF_FUSED) {
+    let all = FAULTS.iter().chain(&OF_ROOTS).chain(&OF_FUSED).chain(&OF_WHOLES);
+    for Fault { rows, what, spoil } in all {
         for row in rows.iter().filter_map(|name| table::find(name)) {
             let operation = operation_of(row);
             let is_met = |request: &Request| {
@@ -148,18 +150,19 @@ fn each_fault_is_met() {
             tried += 1;
         }
     }
-    assert_eq!(tried, 8 * 3 + 5 + 9 * 2 + 10 * 2 + 16 * 2);
+    assert_eq!(tried, 8 * 3 + 5 + 9 * 2 + 10 * 2 + 16 * 2 + 14 * 4 + 2);
 }
 
 #[test]
 fn exact_answers_are_no_faults() {
-    for name in [REMAINDERS, REDUCTIONS, ROOTS, FUSED].concat() {
+    for name in [REMAINDERS, REDUCTIONS, ROOTS, FUSED, WHOLES].concat() {
         let row = table::find(name).unwrap();
         let operation = operation_of(row);
+        let kinds = known_of(operation);
         assert!([WIDTH_64, WIDTH_32].contains(&operation.format));
         for (_, request) in requests(row, 1, 20_000).take(20_000) {
             let (exact, crates) = (Answer::exact(operation, &request), (row.crates)(&request));
-            let known = kind_of(&KINDS, operation, &request).is_some();
+            let known = kind_of(&kinds, operation.format, &request).is_some();
             assert!(known || same(row.nans, operation, &exact, &crates), "{name} {request:?}");
         }
     }

@@ -64,7 +64,13 @@ fn is_unnamed(number: u32) -> bool {
     row_of(number).is_none()
 }
 
-static FAULTS: [(&str, ListCall); 25] = [
+fn nans_go_through(input: &[u64], output: &mut [u64]) {
+    for (x, y) in input.iter().zip(output) {
+        *y = if WIDTH_64.is_nan(*x) { *x } else { *y };
+    }
+}
+
+static FAULTS: [(&str, ListCall); 26] = [
     ("every list is refused", |_, _| 3),
     ("every list that is not empty is refused", |number, lent| {
         number_if(lent.input_length > 0 && rule(number, lent) == 0, 2, number, lent)
@@ -150,19 +156,16 @@ static FAULTS: [(&str, ListCall); 25] = [
         3 => right(2, lent),
         _ => right(number, lent),
     }),
-    ("a NaN of floor and trunc is the canonical one", |number, lent| {
-        when_done(number, lent, |input, output| {
-            for (x, y) in input.iter().zip(output) {
-                *y = if WIDTH_64.is_nan(*x) { WIDTH_64.canonical_nan() } else { *y };
-            }
-        })
-    }),
     ("a NaN goes through the root", |number, lent| match number {
-        1 => when_done(number, lent, |input, output| {
-            for (x, y) in input.iter().zip(output) {
-                *y = if WIDTH_64.is_nan(*x) { *x } else { *y };
-            }
-        }),
+        1 => when_done(number, lent, nans_go_through),
+        _ => right(number, lent),
+    }),
+    ("a NaN goes through floor", |number, lent| match number {
+        2 => when_done(number, lent, nans_go_through),
+        _ => right(number, lent),
+    }),
+    ("a NaN goes through trunc", |number, lent| match number {
+        3 => when_done(number, lent, nans_go_through),
         _ => right(number, lent),
     }),
     ("the word past the output is written", |number, lent| {

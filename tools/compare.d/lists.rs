@@ -52,7 +52,7 @@ pub fn refusal(Shape { number, lengths: [input, output] }: Shape) -> u32 {
 
 /// What ours must make of a place.
 pub fn by_the_crate(row: &Row, x: u64) -> u64 {
-    row.nans.ours(WIDTH_64, (row.crates)(&Request::word(x)).word)
+    LISTS.nans.ours(WIDTH_64, (row.crates)(&Request::word(x)).word)
 }
 
 /// Both lists in one piece of memory, with words of their own before, between and past them.
@@ -123,7 +123,7 @@ fn operation() -> &'static Operation {
 /// Calls of every kind in turn, a hundredth of the count.
 pub fn drawn(run: &Run, ours: ListCall, count: u64) -> Tally {
     let calls = count.div_ceil(COUNT_A_CALL);
-    let mut tally = Tally::new(operation(), LISTS.nans, String::new(), run.seed.to_string());
+    let mut tally = Tally::new(operation(), LISTS.nans.text(), String::new(), run.seed.to_string());
     let mut random = Random::new(run.seed, 1001);
     let (mut progress, mut places) = (Progress::new(), 0);
     tally.kinds = vec![0; FOR_LISTS.len()];

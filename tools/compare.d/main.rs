@@ -12,8 +12,11 @@ mod faults;
 mod faults_lists;
 #[cfg(test)]
 mod faults_rounded;
+#[cfg(test)]
+mod faults_whole;
 mod fused;
 mod fused_ties;
+mod halves;
 mod kinds;
 mod known;
 mod list_shapes;

@@ -23,8 +23,10 @@ pub fn drawn(draws: &[Draw], kind: &str, format: Format, count: u64) -> Vec<Requ
     (0..count).map(|turn| make(format, turn, &mut random)).collect()
 }
 
-/// Operands of floor and trunc: numbers about the integers at every exponent, then patterns of all classes.
-pub static FOR_WHOLE: [Draw; 2] = [
+/// Operands of floor and trunc: those of the known difference first, so that the shortest run meets it; then numbers about
+/// the integers at every exponent, and patterns of all classes.
+pub static FOR_WHOLE: [Draw; 3] = [
+    draw("powers of two below one", |f, turn, _| Request::word(power_below_one(f, turn))),
     draw("beside an integer", |f, turn, random| Request::word(near_integer(f, turn, random))),
     draw("all classes", |f, turn, random| Request::word(pattern(f, turn, random))),
 ];
@@ -117,6 +119,13 @@ fn ends(format: Format, x: u64) -> (i32, i32) {
     (place + 63 - number.leading_zeros() as i32, place + number.trailing_zeros() as i32)
 }
 
+/// Every normal power of two below one in turn, of either sign, from one half down.
+fn power_below_one(format: Format, turn: u64) -> u64 {
+    let greatest = u64::from(format.bias()) - 1;
+    let field = greatest - turn / 2 % greatest;
+    turn % 2 * format.sign_bit() | field << format.fraction_bits
+}
+
 /// A number whose digits below the point are none, the least, one half, its neighbours, or all of them.
 fn near_integer(format: Format, turn: u64, random: &mut Random) -> u64 {
     let digits = format.fraction_bits;
@@ -181,4 +190,22 @@ pub fn fraction(format: Format, random: &mut Random) -> u64 {
 
 pub fn sign(format: Format, random: &mut Random) -> u64 {
     if random.coin() { format.sign_bit() } else { 0 }
+}
+
+#[cfg(test)]
+mod tests {
+    use super::*;
+    use crate::format::{WIDTH_32, WIDTH_64};
+    use crate::halves::is_power_below_one;
+    use std::collections::BTreeSet;
+
+    #[test]
+    fn every_power_of_two_below_one_comes_before_any_comes_again() {
+        for (format, count) in [(WIDTH_32, 2 * 126), (WIDTH_64, 2 * 1022)] {
+            let powers = drawn(&FOR_WHOLE, "powers of two below one", format, count);
+            assert!(powers.iter().all(|r| is_power_below_one(format, r.x())));
+            let met: BTreeSet<u64> = powers.iter().map(Request::x).collect();
+            assert_eq!(met.len() as u64, count);
+        }
+    }
 }

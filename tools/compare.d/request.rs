@@ -139,7 +139,7 @@ impl Answer {
 }
 
 /// The number of a status in docs/DIFFERENCES.md.
-fn number_of(status: Status) -> i64 {
+pub fn number_of(status: Status) -> i64 {
     match status {
         OK => 0,
         INVALID => 1,

@@ -2,7 +2,7 @@
 
 use crate::answers::judge;
 use crate::cases::Requests;
-use crate::kinds::{KINDS, explain, unmet};
+use crate::kinds::{self, Other, explain, kind_of, unmet};
 use crate::lines::{write_fields, write_request};
 use crate::operations::{self, Kind, Operation};
 use crate::random::Random;
@@ -86,7 +86,7 @@ impl Run {
                 progress.tell(row.name, turn, count);
             }
         }
-        tally.unmet = unmet(operation, &tally.explained);
+        tally.unmet = unmet(&tally.known, &tally.explained);
         let kinds = tally.kinds_text(kind_names(row));
         let tally = tally.close();
         println!("{}: of these {kinds}", row.name);
@@ -115,40 +115,63 @@ impl Run {
             }
             progress.tell(row.name, block, 1 << 12);
         }
+        tally.unmet = unmet(&tally.known, &tally.explained);
         Ok(tally.close())
     }
 
     fn try_one(&self, row: &Row, request: &Request, tally: &mut Tally) {
-        tally.tried += 1;
-        let (mut ours, mut crates) = match caught(|| ((row.ours)(request), (row.crates)(request))) {
-            Ok(sides) => sides,
+        match caught(|| ((row.ours)(request), (row.crates)(request))) {
+            Ok((ours, crates)) => self.settle(row, request, [ours, crates], tally),
             Err(said) => {
+                tally.tried += 1;
                 let request = write_request(tally.operation, &request.fields(tally.operation));
-                return tally.panic(&format!("{request}; {said}"));
+                tally.panic(&format!("{request}; {said}"));
             }
-        };
-        let mut judged = match row.judge {
-            Judge::Crate => None,
-            Judge::Plain(beside) => Some((Answer::exact(tally.operation, request), beside)),
-        };
-        if tally.tried % 1000 == 0 {
-            self.spoil(tally.operation, &mut ours, &mut crates, &mut judged);
         }
-        if tally.operation.answer_kinds()[0] == Kind::Unsigned {
+    }
+
+    /// What both sides answered is counted, and reported where it is not as it must be.
+    pub fn settle(&self, row: &Row, request: &Request, sides: [Answer; 2], tally: &mut Tally) {
+        tally.tried += 1;
+        let ([mut ours, mut crates], operation) = (sides, tally.operation);
+        let kind = kind_of(&tally.known, operation.format, request);
+        let mut judged = judged(row, kind, operation, request);
+        if tally.tried % 1000 == 0 {
+            self.spoil(operation, &mut ours, &mut crates, &mut judged);
+        }
+        if operation.answer_kinds()[0] == Kind::Unsigned {
             *tally.refusals.entry(ours.number).or_default() += 1;
         }
-        let is_same = |one: &Answer, other: &Answer| same(row.nans, tally.operation, one, other);
+        let is_same = |one: &Answer, other: &Answer| same(row.nans, operation, one, other);
+        // A side that is known always to differ is looked at also where it does not.
+        let is_struck = kind.is_some_and(|kind| kind.other != Other::AnotherValue);
         let differing = match &judged {
             None => [(!is_same(&ours, &crates)).then_some((&ours, OTHER, &crates)), None],
             Some((judged, beside)) => [
                 (!is_same(&ours, judged)).then_some((&ours, "the judge", judged)),
-                (!is_same(judged, &crates)).then_some((judged, *beside, &crates)),
+                (is_struck || !is_same(judged, &crates)).then_some((judged, *beside, &crates)),
             ],
         };
         for (right, who, answer) in differing.into_iter().flatten() {
             report(request, right, who, answer, tally);
         }
     }
+}
+
+/// The plain program's answer, where that judges both sides, and the name of the side that is not ours: in rows of its own,
+/// and on operands of a known difference.
+fn judged(
+    row: &Row,
+    kind: Option<&kinds::Kind>,
+    operation: &Operation,
+    request: &Request,
+) -> Option<(Answer, &'static str)> {
+    let beside = match (row.judge, kind) {
+        (Judge::Plain(beside), _) => beside,
+        (Judge::Crate, Some(_)) => OTHER,
+        (Judge::Crate, None) => return None,
+    };
+    Some((Answer::exact(operation, request), beside))
 }
 
 impl Run {
@@ -186,7 +209,7 @@ pub fn leaves_status_out(operation: &Operation) -> bool {
 /// `right` is taken for right, and `who` gives another answer.
 fn report(request: &Request, right: &Answer, who: &str, other: &Answer, tally: &mut Tally) {
     let operation = tally.operation;
-    if let Some(entry) = explain(&KINDS, operation, request, right) {
+    if let Some(entry) = explain(&tally.known, operation, request, right, other) {
         *tally.explained.entry(entry).or_default() += 1;
         return;
     }

@@ -72,7 +72,8 @@ pub struct Row {
 /// The list call: how ours is called, and the row of the operation that each number stands for.
 pub struct Lists {
     pub name: &'static str,
-    pub nans: &'static str,
+    /// The rule of all its operations.
+    pub nans: Nans,
     pub ours: ListCall,
     pub operations: [(u32, &'static str); 3],
 }
@@ -110,7 +111,7 @@ extern "C" {
 pub static ROWS: [Row; 15] = [
     Row {
         name: "trunc64",
-        nans: Nans::BitForBit,
+        nans: Nans::Equal,
         judge: Judge::Crate,
         draws: &FOR_WHOLE,
         ours: |r| unsafe { Answer::status(pk_trunc64(r.x()), pk_trunc64_status(r.x())) },
@@ -118,7 +119,7 @@ pub static ROWS: [Row; 15] = [
     },
     Row {
         name: "trunc32",
-        nans: Nans::BitForBit,
+        nans: Nans::Equal,
         judge: Judge::Crate,
         draws: &FOR_WHOLE,
         ours: |r| unsafe { Answer::status(pk_trunc32(r.x32()).into(), pk_trunc32_status(r.x32())) },
@@ -126,7 +127,7 @@ pub static ROWS: [Row; 15] = [
     },
     Row {
         name: "floor64",
-        nans: Nans::BitForBit,
+        nans: Nans::Equal,
         judge: Judge::Crate,
         draws: &FOR_WHOLE,
         ours: |r| unsafe { Answer::status(pk_floor64(r.x()), pk_floor64_status(r.x())) },
@@ -134,7 +135,7 @@ pub static ROWS: [Row; 15] = [
     },
     Row {
         name: "floor32",
-        nans: Nans::BitForBit,
+        nans: Nans::Equal,
         judge: Judge::Crate,
         draws: &FOR_WHOLE,
         ours: |r| unsafe { Answer::status(pk_floor32(r.x32()).into(), pk_floor32_status(r.x32())) },
@@ -245,7 +246,7 @@ pub static ROWS: [Row; 15] = [
 // It is proved to touch nothing but the output, and the lists that are lent to it do not meet.
 pub static LISTS: Lists = Lists {
     name: "list64",
-    nans: "as of sqrt64, floor64 and trunc64",
+    nans: Nans::Equal,
     ours: |number, lent| unsafe {
         pk_list64(number, lent.input, lent.input_length, lent.output, lent.output_length)
     },

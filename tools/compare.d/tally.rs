@@ -1,5 +1,6 @@
 //! What a run has found, and what it says of it: one operation's counts, and a line every few seconds.
 
+use crate::kinds::{Kind, known_of};
 use crate::operations::Operation;
 use crate::run::PRINTED;
 use crate::table::Row;
@@ -24,7 +25,8 @@ pub struct Tally {
     pub unexplained: u64,
     pub panics: u64,
     pub explained: BTreeMap<&'static str, u64>,
-    /// The known differences that should have been met and were not.
+    /// The known differences that can be met, and those of them that were not.
+    pub known: Vec<&'static Kind>,
     pub unmet: Vec<&'static str>,
     /// How many operands of each kind there were, or calls, in the order of the kinds.
     pub kinds: Vec<u64>,
@@ -51,6 +53,7 @@ impl Tally {
             unexplained: 0,
             panics: 0,
             explained: BTreeMap::new(),
+            known: known_of(operation),
             unmet: Vec::new(),
         }
     }
@@ -93,7 +96,7 @@ impl Tally {
         );
         for entry in &self.unmet {
             println!(
-                "{name}: the known difference {entry} was not met: the other side is not the routine that has it, or ours has it too"
+                "{name}: the known difference {entry} was not met: the other side is not the routine that has it"
             );
         }
         self
