@@ -1,27 +1,36 @@
 //! What one call answers: a pattern, or a pattern with a second word beside it.
 
+use crate::format::{WIDTH_32, WIDTH_64};
+
+/// The numbers of two statuses.
+const OK: u64 = 0;
+const INEXACT: u64 = 32;
+
 pub trait Answer: Copy {
     /// All of the answer in one word, so that no part of it goes unused and a later call can wait for it.
     fn mixed(self) -> u64;
     /// Whether two answers are alike; any two NaNs are.
     fn same(self, other: Self) -> bool;
+    /// Whether the values are alike, and ours is INEXACT where the crate's is OK.
+    fn is_inexact_beside_ok(self, _: Self) -> bool {
+        false
+    }
 }
 
 macro_rules! pattern {
-    ($word:ty, $infinity:expr) => {
+    ($word:ty, $format:expr) => {
         impl Answer for $word {
             fn mixed(self) -> u64 {
                 self as u64
             }
             fn same(self, other: $word) -> bool {
-                let nan = |x: $word| x << 1 > $infinity << 1;
-                self == other || nan(self) && nan(other)
+                $format.same_value(self as u64, other as u64)
             }
         }
     };
 }
-pattern!(u64, 0x7ff0_0000_0000_0000);
-pattern!(u32, 0x7f80_0000);
+pattern!(u64, WIDTH_64);
+pattern!(u32, WIDTH_32);
 
 /// A quotient.
 impl Answer for i32 {
@@ -39,5 +48,8 @@ impl<A: Answer, B: Answer> Answer for (A, B) {
     }
     fn same(self, other: (A, B)) -> bool {
         self.0.same(other.0) && self.1.same(other.1)
+    }
+    fn is_inexact_beside_ok(self, crates: (A, B)) -> bool {
+        self.0.same(crates.0) && [self.1, crates.1].map(B::mixed) == [INEXACT, OK]
     }
 }

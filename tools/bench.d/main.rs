@@ -1,6 +1,14 @@
 //! Times the archive's operations beside the crate's. Built and run by tools/bench, which chooses what is measured.
 
 mod answers;
+#[path = "../plain/big.rs"]
+#[allow(dead_code)]
+mod big;
+#[path = "../plain/format.rs"]
+#[allow(dead_code)]
+mod format;
+#[path = "../compare.d/halves.rs"]
+mod halves;
 mod measure;
 mod operands;
 mod operations;
@@ -56,6 +64,7 @@ fn asked(mut words: impl Iterator<Item = String>) -> Result<Run, String> {
         requests: String::new(),
         rows: Vec::new(),
         differences: Vec::new(),
+        halves: 0,
     };
     while let Some(word) = words.next() {
         let mut value = || words.next().ok_or(format!("{word} needs a value"));

@@ -2,27 +2,27 @@
 //!
 //! The line before each `pub fn` says what the set holds; `tools/bench --list` and the report show it.
 
+use crate::format::{Format, WIDTH_32, WIDTH_64};
 use crate::random::Random;
 
 /// A bit pattern of one of the widths.
 pub trait Word: Copy {
-    const WIDTH: u32;
-    const FRACTION_BITS: u32;
+    const FORMAT: Format;
+    const WIDTH: u32 = Self::FORMAT.width;
+    const FRACTION_BITS: u32 = Self::FORMAT.fraction_bits;
     const BIAS: i32 = (1 << (Self::WIDTH - Self::FRACTION_BITS - 2)) - 1;
     /// The exponent of the smallest normal number; the greatest is the bias.
     const SMALLEST: i32 = 1 - Self::BIAS;
     fn of(bits: u64) -> Self;
 }
 impl Word for u64 {
-    const WIDTH: u32 = 64;
-    const FRACTION_BITS: u32 = 52;
+    const FORMAT: Format = WIDTH_64;
     fn of(bits: u64) -> u64 {
         bits
     }
 }
 impl Word for u32 {
-    const WIDTH: u32 = 32;
-    const FRACTION_BITS: u32 = 23;
+    const FORMAT: Format = WIDTH_32;
     fn of(bits: u64) -> u32 {
         bits as u32
     }

@@ -3,7 +3,8 @@
 // An answer of one word is written as that word in parentheses, to be said like an answer of two.
 #![allow(unused_parens)]
 
-use crate::operands;
+use crate::halves::is_power_below_one;
+use crate::operands::{self, Word};
 use crate::run::Run;
 use oracle::math::support::{linear_mul_reduction, FpResult, Round, Status};
 use oracle::math::{fma, fmaf, generic, remquo};
@@ -21,6 +22,14 @@ macro_rules! names {
 }
 macro_rules! call {
     ($function:expr, ($($x:ident: $type:ty),+), $stir:expr) => { $function($($x ^ $stir as $type),+) };
+}
+/// Whether the crate is known to say OK of the first operand, where ours is INEXACT.
+macro_rules! is_half {
+    ($name:ident, ($x:ident: $type:ty $(, $rest:ident: $other:ty)*)) => {{
+        $(let _ = $rest;)*
+        let is_status = matches!(stringify!($name), "trunc64_status" | "trunc32_status" | "floor64_status" | "floor32_status");
+        is_status && oracle::api::STATUSES && is_power_below_one(<$type as Word>::FORMAT, $x as u64)
+    }};
 }
 macro_rules! request {
     (($($x:ident: $type:ty),+)) => { [$(word(stringify!($x), $x)),+].join(" ") };
@@ -56,7 +65,8 @@ macro_rules! operations {
                 let our_side = |names!($operands): types!($operands), stir: u64| ($(unsafe { call!($export, $operands, stir) }),+);
                 let their_side = |names!($operands): types!($operands), stir: u64| call!(theirs, $operands, stir);
                 let request = |names!($operands): types!($operands)| request!($operands);
-                $(run.measure(stringify!($set), operands::$set, request, our_side, their_side);)+
+                let is_half = |names!($operands): types!($operands)| is_half!($name, $operands);
+                $(run.measure(stringify!($set), operands::$set, request, is_half, our_side, their_side);)+
             },
         }),+];
     };

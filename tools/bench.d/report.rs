@@ -16,7 +16,8 @@ pub fn text(run: &Run) -> String {
     lines.extend(run.rows.iter().map(cells));
     let mut text = aligned(&lines);
     text += &match run.differences.as_slice() {
-        [] => "\nBoth sides answer alike on all these operands.\n".to_string(),
+        [] if run.halves == 0 => "\nBoth sides answer alike on all these operands.\n".to_string(),
+        [] => format!("\nBoth sides answer alike on all these operands, but for {} half-says-ok of docs/DIFFERENCES.md.\n", run.halves),
         some => format!("\n**The two sides do not answer alike**: {}.\n", some.join("; ")),
     };
     if !oracle::api::STATUSES {
