@@ -23,10 +23,12 @@ pub fn drawn(draws: &[Draw], kind: &str, format: Format, count: u64) -> Vec<Requ
     (0..count).map(|turn| make(format, turn, &mut random)).collect()
 }
 
-/// Operands of floor and trunc: those of the known difference first, so that the shortest run meets it; then numbers about
-/// the integers at every exponent, and patterns of all classes.
+/// Operands of floor and trunc: those of the known difference and their neighbours first, so that the shortest run meets
+/// it; then numbers about the integers at every exponent, and patterns of all classes.
 pub static FOR_WHOLE: [Draw; 3] = [
-    draw("powers of two below one", |f, turn, _| Request::word(power_below_one(f, turn))),
+    draw("about powers of two below one", |f, turn, random| {
+        Request::word(about_power_below_one(f, turn, random))
+    }),
     draw("beside an integer", |f, turn, random| Request::word(near_integer(f, turn, random))),
     draw("all classes", |f, turn, random| Request::word(pattern(f, turn, random))),
 ];
@@ -119,11 +121,18 @@ fn ends(format: Format, x: u64) -> (i32, i32) {
     (place + 63 - number.leading_zeros() as i32, place + number.trailing_zeros() as i32)
 }
 
-/// Every normal power of two below one in turn, of either sign, from one half down.
-fn power_below_one(format: Format, turn: u64) -> u64 {
-    let greatest = u64::from(format.bias()) - 1;
-    let field = greatest - turn / 2 % greatest;
-    turn % 2 * format.sign_bit() | field << format.fraction_bits
+/// Every normal power of two below one in turn, of either sign, from one half down: itself, a place or two above and below
+/// it, and with one digit more.
+fn about_power_below_one(format: Format, turn: u64, random: &mut Random) -> u64 {
+    let (power, greatest) = (turn / 4, u64::from(format.bias()) - 1);
+    let field = greatest - power / 2 % greatest;
+    let power = power % 2 * format.sign_bit() | field << format.fraction_bits;
+    match turn % 4 {
+        0 => power,
+        1 => power + 1 + random.below(2),
+        2 => power - 1 - random.below(2),
+        _ => power | 1 << random.below(format.fraction_bits.into()),
+    }
 }
 
 /// A number whose digits below the point are none, the least, one half, its neighbours, or all of them.
@@ -202,10 +211,11 @@ mod tests {
     #[test]
     fn every_power_of_two_below_one_comes_before_any_comes_again() {
         for (format, count) in [(WIDTH_32, 2 * 126), (WIDTH_64, 2 * 1022)] {
-            let powers = drawn(&FOR_WHOLE, "powers of two below one", format, count);
-            assert!(powers.iter().all(|r| is_power_below_one(format, r.x())));
-            let met: BTreeSet<u64> = powers.iter().map(Request::x).collect();
-            assert_eq!(met.len() as u64, count);
+            let about = drawn(&FOR_WHOLE, "about powers of two below one", format, 4 * count);
+            let (powers, others): (Vec<_>, Vec<_>) =
+                about.iter().map(Request::x).partition(|x| is_power_below_one(format, *x));
+            assert_eq!((powers.len() as u64, others.len() as u64), (count, 3 * count));
+            assert_eq!(powers.iter().collect::<BTreeSet<_>>().len() as u64, count);
         }
     }
 }
