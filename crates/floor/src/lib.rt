@@ -46,7 +46,7 @@ fn fill(frac: u32, expo: u32, x: u64, mask: u64) -> u64
 
 fn of_pattern(frac: u32, expo: u32, x: u64) -> u64
     requires { ⌜ Fits frac expo × Pattern (format frac expo) x ⌝ }
-    ensures { λ r. ⌜ r ≡ floorOf (format frac expo) x ⌝ }
+    ensures { λ r. ⌜ (r ≡ floorOf (format frac expo) x) × Pattern (format frac expo) r ⌝ }
 {
     let n = exponent_of(frac, expo, x);
     let mask = behind(frac, n);

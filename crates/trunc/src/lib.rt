@@ -14,7 +14,7 @@ use whole::status;
 // The bits behind the point are cut off.
 fn of_pattern(frac: u32, expo: u32, x: u64) -> u64
     requires { ⌜ Fits frac expo × Pattern (format frac expo) x ⌝ }
-    ensures { λ r. ⌜ r ≡ truncOf (format frac expo) x ⌝ }
+    ensures { λ r. ⌜ (r ≡ truncOf (format frac expo) x) × Pattern (format frac expo) r ⌝ }
 {
     let one = one_nan(frac, expo, x);
     without(one, tail(frac, expo, x))

@@ -2,6 +2,9 @@
 use Prim.Native.Nat.{suc, _*_, _/_}
 use mathlib.Core.Path.{_≡_, sym, ap, _∙_, subst}
 use borrow.Author.Needs.{needs}
+use Rattle.ieee.specs.Pattern.{Pattern}
+use Rattle.ieee.specs.Whole.{floorOf}
+use Rattle.ieee.proofs.Wholes.{floor-pattern}
 use Rattle.fields.specs.Width.{format}
 use Rattle.point.specs.Point.{exponentOf, behindOf, byPoint, Mask}
 use Rattle.point.proofs.Masks.{behind-mask}
@@ -49,9 +52,8 @@ returns c =
     let f = format (s .args .frac) (s .args .expo) in
     let x = s .args .x in
     let part = w .without .ensures ∙ ap (λ y. y / suc (m .behind .result) * suc (m .behind .result)) (u .fill .ensures) ∙ ap (λ b. filled f x b / suc b * suc b) (mask-is m) in
-    c .by-point .ensures
-    ∙ (λ i. byPoint f x (l .below-one .ensures i) (part i) (o .one-nan .ensures i))
-    ∙ floor-by-point (s .pre .0) x (s .pre .1)
+    let e : c .by-point .result ≡ floorOf f x = c .by-point .ensures ∙ (λ i. byPoint f x (l .below-one .ensures i) (part i) (o .one-nan .ensures i)) ∙ floor-by-point (s .pre .0) x (s .pre .1) in
+    (e, subst (Pattern f) (sym e) (floor-pattern f (s .pre .0 .fair) x (s .pre .1)))
 
 pub of-pattern-spec : {M : Type 1} → statement M
 of-pattern-spec = tie.close (tie.spec exponent-of-requires behind-requires fill-requires without-requires below-one-requires one-nan-requires by-point-requires returns)
