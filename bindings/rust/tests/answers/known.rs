@@ -162,5 +162,5 @@ fn the_recorded_cases_hold() {
 
 #[test]
 fn the_published_vectors_hold() {
-    all_hold(&claims::of_file("crates/replay/data/published.lines"));
+    all_hold(&claims::of_file("tests/published.lines"));
 }
