@@ -6,6 +6,9 @@
 // it is: the list call judges it.
 ghost use mathlib.Core.Path.{_≡_};
 ghost use Prim.Native.Nat.{_≤_, _<_};
+
+mod pieces;
+
 use lines::Kept;
 use pieces::Piece;
 use streams::Asked;

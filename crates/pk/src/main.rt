@@ -1,4 +1,7 @@
 // Answers the requests on standard input, one line of output for each line of input, and then writes how many lines were bad, as the verdict.
+mod call;
+mod reply;
+
 use lines::Kept;
 use streams::Streams;
 
@@ -45,13 +48,7 @@ fn end_line(mut s: State, line: &[u8; 128], out: &mut [u8; 65536]) -> State {
     let used = t.used;
     let number = std::num::wrapping_add_u64(s.ended, 1);
     if held > 0 {
-        let reply = replies::write_reply(
-            out,
-            used,
-            lines::part(line, 0, held),
-            kept.is_long,
-            number,
-        );
+        let reply = reply::write_reply(out, used, lines::part(line, 0, held), kept.is_long, number);
         t.used = reply.end;
         if reply.is_bad {
             s.bad = std::num::wrapping_add_u64(s.bad, 1);

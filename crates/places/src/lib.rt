@@ -4,17 +4,19 @@ ghost use Prim.Native.Nat.{_<_};
 ghost use Rattle.numerals.specs.Digits.{digitsOf};
 ghost use Rattle.writers.specs.Placed.{Placed};
 ghost use Rattle.places.specs.Placing.{ReadAs};
-use complaints::write_expected;
-use complaints::write_fault;
-use complaints::write_start;
-use lines::Fault;
 use lines::Field;
 use lines::find;
 use lines::read_word;
-use lines::write_bytes;
-use lines::write_unsigned;
 use lines::write_word;
-use operations::Kind;
+use operations::complaint::with_expected;
+use operations::complaint::with_fault;
+use operations::complaint::with_start;
+use operations::line::Line;
+use operations::line::empty;
+use operations::line::with_number;
+use operations::line::with_text;
+use operations::line::write_line;
+use operations::text::Text;
 
 // A line as a place of a list: its pattern, with the mark 0. A line that is no pattern has the mark of what is wrong with it, and zero for its
 // pattern, so that the lines after it keep their places.
@@ -77,67 +79,50 @@ pub fn read_place(s: &[u8], size: u64) -> Place
 }
 
 // What the line is or has.
-fn write_flaw(out: &mut [u8], at: usize, mark: u64) -> usize {
+fn with_flaw(l: Line, mark: u64) -> Line {
     if mark == EMPTY {
-        return write_bytes(out, at, b"is empty");
+        return with_text(l, Text::Empty as u8);
     }
     if mark == COMMENT {
-        return write_bytes(out, at, b"is a comment");
+        return with_text(l, Text::Comment as u8);
     }
     if mark > LENGTH {
-        let size = mark - LENGTH;
-        return write_fault(out, at, Fault::WrongLength, size as usize);
+        return with_fault(l, Text::Has as u8, mark - LENGTH);
     }
-    write_fault(out, at, Fault::WrongDigit, 16)
+    with_fault(l, Text::WrongDigit as u8, 16)
 }
 
-fn write_mark(out: &mut [u8], at: usize, mark: u64) -> usize {
+fn with_mark(l: Line, mark: u64) -> Line {
     if mark == CARRIAGE_RETURN {
-        return write_bytes(out, at, b"a carriage return stands in the line");
+        return with_text(l, Text::ReturnInLine as u8);
     }
     if mark == BLANK {
-        return write_bytes(out, at, b"a blank stands in the line");
+        return with_text(l, Text::BlankInLine as u8);
     }
-    let end = write_bytes(out, at, b"the line ");
-    write_flaw(out, end, mark)
+    with_flaw(with_text(l, Text::TheLine as u8), mark)
 }
 
 // In the place of a line that is no pattern.
 fn write_bad(out: &mut [u8], at: usize, number: u64, mark: u64) -> usize {
-    let end = write_start(out, at, number);
-    let next = write_mark(out, end, mark);
-    write_expected(out, next, Kind::Word64)
+    let line = with_mark(with_start(empty(), number), mark);
+    write_line(out, at, with_expected(line, b'W'))
 }
 
 // That a piece was refused: the number, and what it means.
-pub fn write_refusal(out: &mut [u8], at: usize, refusal: u32) -> usize {
-    let next = write_bytes(out, at, b" was refused with ");
-    let end = write_unsigned(out, next, refusal as u64);
+pub fn with_refusal(l: Line, refusal: u32) -> Line {
+    let line = with_number(with_text(l, Text::Refused as u8), refusal as u64);
     match refusal {
-        1 => write_bytes(
-            out,
-            end,
-            b": no such operation; expected 1 (sqrt), 2 (floor) or 3 (trunc)",
-        ),
-        2 => write_bytes(
-            out,
-            end,
-            b": a list is too long; expected at most 8192 places",
-        ),
-        3 => write_bytes(
-            out,
-            end,
-            b": the lists differ in length; expected one length for both",
-        ),
-        _ => end,
+        1 => with_text(line, Text::NoOperation as u8),
+        2 => with_text(line, Text::TooManyPlaces as u8),
+        3 => with_text(line, Text::UnlikeLengths as u8),
+        _ => line,
     }
 }
 
 // In the place of a line whose piece was refused.
 fn write_refused(out: &mut [u8], at: usize, number: u64, refusal: u32) -> usize {
-    let end = write_start(out, at, number);
-    let next = write_bytes(out, end, b"its piece");
-    write_refusal(out, next, refusal)
+    let line = with_text(with_start(empty(), number), Text::ItsPiece as u8);
+    write_line(out, at, with_refusal(line, refusal))
 }
 
 // In the place of the line `number`: the result y; or why there is none, by the line's own mark first.

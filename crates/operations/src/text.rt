@@ -1,0 +1,137 @@
+// Every text that is written, said once.
+use lines::find;
+use lines::part;
+use lines::write_bytes;
+
+// The texts by name, in the order in which `TEXTS` has them.
+pub enum Text {
+    Arrow,
+    Blank,
+    Ok,
+    Plus,
+    Invalid,
+    DivByZero,
+    Overflow,
+    Underflow,
+    Inexact,
+    ErrorLine,
+    Colon,
+    Operand,
+    TheAttribute,
+    Expected,
+    Has,
+    Character,
+    Characters,
+    WrongDigit,
+    NoDigits,
+    LeadingZero,
+    MinusZero,
+    OutOfRange,
+    Hex16,
+    Hex8,
+    Integer,
+    Natural,
+    Attribute,
+    Nothing,
+    TooLong,
+    CarriageReturn,
+    BlankTooMany,
+    Unknown,
+    Missing,
+    TooMany,
+    OneOperand,
+    Operands,
+    TheLine,
+    Empty,
+    Comment,
+    ReturnInLine,
+    BlankInLine,
+    ItsPiece,
+    Refused,
+    NoOperation,
+    TooManyPlaces,
+    UnlikeLengths,
+    Piece,
+    Lines,
+    To,
+    Comma,
+    Pk,
+    Answered,
+    OfThemBad,
+}
+
+// A text ends before the bar; what stands first is found first.
+const TEXTS: [u8; 1133] = *b" ->|
+ |
+OK|
++|
+INVALID|
+DIVBYZERO|
+OVERFLOW|
+UNDERFLOW|
+INEXACT|
+error: line |
+: |
+operand |
+the attribute |
+; expected |
+has |
+ character|
+ characters|
+has a wrong digit|
+has no digits|
+begins with a zero|
+is a zero with a sign|
+is out of range|
+16 lower-case hex digits|
+8 lower-case hex digits|
+a decimal number from -2147483648 to 2147483647|
+a decimal number from 0 to 4294967295|
+even, zero, down, up, away or a decimal number from 0 to 4294967295|
+nothing|
+the line is too long; expected a request of at most 124 characters|
+a carriage return stands in the request; expected a line feed alone|
+a blank too many; expected single blanks between fields|
+unknown operation; expected one of|
+is missing|
+is one too many; expected |
+ operand|
+ operands|
+the line |
+is empty|
+is a comment|
+a carriage return stands in the line|
+a blank stands in the line|
+its piece|
+ was refused with |
+: no such operation; expected 1 (sqrt), 2 (floor) or 3 (trunc)|
+: a list is too long; expected at most 8192 places|
+: the lists differ in length; expected one length for both|
+pk: piece |
+, lines |
+ to |
+,|
+pk: |
+ lines answered, |
+ of them bad|
+";
+
+// Where the text of that number begins.
+fn start_of(texts: &[u8], number: u8) -> usize {
+    let mut at = 0;
+    let mut before = number;
+    while before > 0 {
+        let end = find(texts, at, b'|');
+        at = std::num::wrapping_add_usize(end, 2);
+        before -= 1;
+    }
+    at
+}
+
+// Writes a text by its number.
+pub fn write_text(out: &mut [u8], at: usize, number: u8) -> usize {
+    let texts = TEXTS;
+    let start = start_of(&texts, number);
+    let end = find(&texts, start, b'|');
+    write_bytes(out, at, part(&texts, start, end))
+}

@@ -1,0 +1,55 @@
+// The answered line, or the line that says what is wrong with a request.
+use crate::call::answer_of;
+use lines::find_arrow;
+use lines::part;
+use lines::write_bytes;
+use operations::complaint::Complaint;
+use operations::complaint::FINE;
+use operations::complaint::complaint_of;
+use operations::complaint::with_complaint;
+use operations::complaint::with_start;
+use operations::line::empty;
+use operations::line::with_answers;
+use operations::line::write_line;
+use operations::request::Request;
+use operations::request::read_request;
+use operations::text::Text;
+
+// What was written: the place after it, and whether it says that the line is bad.
+pub struct Reply {
+    pub end: usize,
+    pub is_bad: bool,
+}
+
+fn complain(out: &mut [u8], at: usize, number: u64, c: Complaint) -> Reply {
+    let line = with_complaint(with_start(empty(), number), c);
+    Reply {
+        end: write_line(out, at, line),
+        is_bad: true,
+    }
+}
+
+fn answer(out: &mut [u8], at: usize, asked: &[u8], r: Request) -> Reply {
+    let end = write_bytes(out, at, asked);
+    let answers = answer_of(r.row.number, r.operands);
+    Reply {
+        end: write_line(out, end, with_answers(empty(), r.row, answers)),
+        is_bad: false,
+    }
+}
+
+// Answers the line number `number`, of which s is the whole or, where `is_long`, the first part, from the place at on.
+pub fn write_reply(out: &mut [u8], at: usize, s: &[u8], is_long: bool, number: u64) -> Reply {
+    let arrow = find_arrow(s);
+    if is_long {
+        if arrow == s.len() {
+            return complain(out, at, number, complaint_of(Text::TooLong as u8));
+        }
+    }
+    let asked = part(s, 0, arrow);
+    let r = read_request(asked);
+    if r.complaint.what != FINE {
+        return complain(out, at, number, r.complaint);
+    }
+    answer(out, at, asked, r)
+}
