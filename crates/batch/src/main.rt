@@ -96,23 +96,12 @@ fn end_piece(
     count_lines(s, answered.bad)
 }
 
-// Keeps the bytes of s, as far as there is room for them.
-fn keep_all(line: &mut [u8; 128], k: Kept, s: &[u8]) -> Kept {
-    let mut more = k;
-    let mut i = 0;
-    while i < s.len() {
-        more = lines::keep(line, more, s[i]);
-        i += 1;
-    }
-    more
-}
-
 // Keeps a part of the line at hand.
 fn keep(mut s: State, line: &mut [u8; 128], bytes: &[u8]) -> State
     ensures { λ r. ⌜ r .filled ≡ s .filled ⌝ }
 {
     let kept = s.kept;
-    let more = keep_all(line, kept, bytes);
+    let more = lines::keep(line, kept, bytes);
     s.kept = more;
     s.size = std::num::wrapping_add_usize(s.size, bytes.len());
     s

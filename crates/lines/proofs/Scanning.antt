@@ -6,9 +6,9 @@ use Prim.Native.Nat.{ℕ, suc, _+_, _-_, _≤_, _<_}
 use native.Mathlib.Numerals.{add-one}
 use native.Mathlib.Omega.{arith}
 use lib.Dec.{eqb, leb}
-use lib.ListN.{length, drop, getD, length-drop, drop-of-length-le}
+use lib.ListN.{length, drop, take, getD, length-drop, drop-of-length-le}
 use lib.Seq.{drop-cons}
-use borrow.Author.Tests.{eq-eqb, ne-eqb, eqb-true, lt-leb}
+use borrow.Author.Tests.{eq-eqb, ne-eqb, eqb-true, le-leb, lt-leb}
 use Rattle.lines.specs.Places.{starts, ahead, placeOf, arrow, partOf, holds, blankTooMany}
 
 -- ---- what stands at a place
@@ -126,3 +126,8 @@ module _ (s : List ℕ) where
   pub blanks-of-some : (length s ≡ 0 → ⊥) → doubled true s ≡ blankTooMany s
   unfolding blankTooMany doubled
   blanks-of-some h = rw (ne-eqb _ 0 h)
+
+-- the first n bytes are a part, where there are so many
+pub first-part : (n : ℕ) (s : List ℕ) → n ≤ length s → partOf s 0 n ≡ take n s
+unfolding partOf
+first-part n s h = let e : n - 0 ≡ n = omega arith in rw (le-leb n (length s) h, e)

@@ -1,6 +1,9 @@
-// The part of a line that is kept while it comes in, byte by byte. The rest of a longer line is passed over and takes no memory.
+// The part of a line that is kept while it comes in. The rest of a longer line is passed over and takes no memory.
 ghost use mathlib.Core.Path.{_≡_};
-ghost use Rattle.lines.specs.Keeping.{noneKept, OneMore};
+ghost use Prim.Native.Nat.{_-_};
+ghost use Rattle.lines.specs.Keeping.{noneKept, MoreKept};
+use crate::scan::part;
+use writers::write_bytes;
 
 // The bytes that are kept: more than any request has, with ` -> ` after it.
 pub const KEPT: usize = 128;
@@ -20,16 +23,23 @@ pub fn nothing_kept() -> Kept
     }
 }
 
-// Keeps one byte more, where there is room for it.
-pub fn keep(line: &mut [u8; 128], mut k: Kept, b: u8) -> Kept
-    ensures { λ r. ⌜ OneMore (now (line .entry)) k b (now (line .exit)) r ⌝ }
+fn room_after(held: usize) -> usize
+    ensures { λ r. ⌜ r ≡ 128 - held ⌝ }
+{
+    if held < KEPT { KEPT - held } else { 0 }
+}
+
+// Keeps the bytes of s after those that are held, as far as there is room for them.
+pub fn keep(line: &mut [u8; 128], mut k: Kept, s: &[u8]) -> Kept
+    ensures { λ r. ⌜ MoreKept (now (line .entry)) k (now (s .entry)) (now (line .exit)) r ⌝ }
 {
     let held = k.held;
-    if held < KEPT {
-        line[held] = b;
-        k.held = held + 1;
+    let room = room_after(held);
+    if s.len() > room {
+        k.is_long = true;
+        k.held = write_bytes(line, held, part(s, 0, room));
         return k;
     }
-    k.is_long = true;
+    k.held = write_bytes(line, held, s);
     k
 }

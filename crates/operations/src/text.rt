@@ -8,27 +8,30 @@ pub enum Text {
     Arrow,
     Blank,
     Ok,
-    Plus,
-    Invalid,
-    DivByZero,
-    Overflow,
-    Underflow,
     Inexact,
+    Invalid,
     ErrorLine,
     Colon,
     Operand,
-    TheAttribute,
     Expected,
     Has,
-    Character,
     Characters,
+    Hex16,
     WrongDigit,
+    Unknown,
+    Hex8,
+    Character,
+    TheLine,
+    Empty,
+    Plus,
+    DivByZero,
+    Overflow,
+    Underflow,
+    TheAttribute,
     NoDigits,
     LeadingZero,
     MinusZero,
     OutOfRange,
-    Hex16,
-    Hex8,
     Integer,
     Natural,
     Attribute,
@@ -36,13 +39,10 @@ pub enum Text {
     TooLong,
     CarriageReturn,
     BlankTooMany,
-    Unknown,
     Missing,
     TooMany,
     OneOperand,
     Operands,
-    TheLine,
-    Empty,
     Comment,
     ReturnInLine,
     BlankInLine,
@@ -60,31 +60,34 @@ pub enum Text {
     OfThemBad,
 }
 
-// A text ends before the bar; what stands first is found first.
+// A text ends before a bar. One is found from the start, so those that lines have most stand first.
 const TEXTS: [u8; 1133] = *b" ->|
  |
 OK|
-+|
-INVALID|
-DIVBYZERO|
-OVERFLOW|
-UNDERFLOW|
 INEXACT|
+INVALID|
 error: line |
 : |
 operand |
-the attribute |
 ; expected |
 has |
- character|
  characters|
+16 lower-case hex digits|
 has a wrong digit|
+unknown operation; expected one of|
+8 lower-case hex digits|
+ character|
+the line |
+is empty|
++|
+DIVBYZERO|
+OVERFLOW|
+UNDERFLOW|
+the attribute |
 has no digits|
 begins with a zero|
 is a zero with a sign|
 is out of range|
-16 lower-case hex digits|
-8 lower-case hex digits|
 a decimal number from -2147483648 to 2147483647|
 a decimal number from 0 to 4294967295|
 even, zero, down, up, away or a decimal number from 0 to 4294967295|
@@ -92,13 +95,10 @@ nothing|
 the line is too long; expected a request of at most 124 characters|
 a carriage return stands in the request; expected a line feed alone|
 a blank too many; expected single blanks between fields|
-unknown operation; expected one of|
 is missing|
 is one too many; expected |
  operand|
  operands|
-the line |
-is empty|
 is a comment|
 a carriage return stands in the line|
 a blank stands in the line|

@@ -29,12 +29,11 @@ fn start() -> State {
     }
 }
 
-fn pass_on(mut s: State, out: &mut [u8; 65536], b: u8) -> State {
+fn pass_on(mut s: State, out: &mut [u8; 65536], bytes: &[u8]) -> State {
     let streams = s.streams;
-    let mut t = streams::reserve(streams, out, 1);
-    let byte = [b];
+    let mut t = streams::reserve(streams, out, bytes.len());
     let used = t.used;
-    t.used = lines::write_bytes(out, used, &byte);
+    t.used = lines::write_bytes(out, used, bytes);
     s.streams = t;
     s
 }
@@ -64,31 +63,42 @@ fn end_line(mut s: State, line: &[u8; 128], out: &mut [u8; 65536]) -> State {
     s
 }
 
-fn take_byte(mut s: State, line: &mut [u8; 128], out: &mut [u8; 65536], b: u8) -> State {
-    if b == b'\n' {
-        return end_line(s, line, out);
+fn starts_comment(s: State, bytes: &[u8]) -> bool {
+    if s.kept.held > 0 {
+        return false;
+    }
+    if bytes.len() == 0 {
+        return false;
+    }
+    bytes[0] == b'#'
+}
+
+// Takes a part of the line at hand.
+fn take_part(mut s: State, line: &mut [u8; 128], out: &mut [u8; 65536], bytes: &[u8]) -> State {
+    if starts_comment(s, bytes) {
+        s.is_comment = true;
     }
     if s.is_comment {
-        return pass_on(s, out, b);
+        return pass_on(s, out, bytes);
     }
     let kept = s.kept;
-    if kept.held == 0 {
-        if b == b'#' {
-            s.is_comment = true;
-            return pass_on(s, out, b);
-        }
-    }
-    let more = lines::keep(line, kept, b);
+    let more = lines::keep(line, kept, bytes);
     s.kept = more;
     s
 }
 
-fn take_bytes(s: State, line: &mut [u8; 128], out: &mut [u8; 65536], bytes: &[u8]) -> State {
+fn take_lines(s: State, line: &mut [u8; 128], out: &mut [u8; 65536], bytes: &[u8]) -> State {
     let mut t = s;
     let mut i = 0;
     while i < bytes.len() {
-        t = take_byte(t, line, out, bytes[i]);
-        i += 1;
+        let rest = &bytes[i..];
+        let n = lines::find(rest, 0, b'\n');
+        if n == rest.len() {
+            return take_part(t, line, out, rest);
+        }
+        i += n + 1;
+        t = take_part(t, line, out, lines::part(rest, 0, n));
+        t = end_line(t, line, out);
     }
     t
 }
@@ -104,7 +114,7 @@ fn turn(
     let taken = streams::take(streams, input);
     let next = taken.streams;
     s.streams = next;
-    let mut t = take_bytes(s, line, out, lines::part(input, 0, taken.count));
+    let mut t = take_lines(s, line, out, lines::part(input, 0, taken.count));
     let full = t.streams;
     let written = streams::flush(full, out);
     t.streams = written;

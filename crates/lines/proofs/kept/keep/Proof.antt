@@ -1,25 +1,34 @@
--- `lines::kept::keep` meets its contract, by the same test. Assumes nothing.
+-- `lines::kept::keep` meets its contract: by whether all bytes have room. Assumes nothing.
+use mathlib.Core.Path.{_≡_, sym, _∙_}
+use mathlib.Core.List.{List}
+use Prim.Native.Nat.{ℕ, _-_}
 use native.Mathlib.Omega.{arith}
+use lib.ListN.{length, take}
+use lib.Seq.{take-all}
 use borrow.Author.Tests.{lt-ltb, le-ltb}
-use borrow.Author.Needs.{needs}
+use denote.Ref.{now}
+use Rattle.writers.specs.Placed.{Placed}
+use Rattle.lines.proofs.Scanning.{first-part}
 use Rattle.lines.proofs.kept.keep.Statement.{statement}
 use Rattle.lines.proofs.kept.keep.Tie as tie
 
-element-write-line : tie.Need-element-write-line
-element-write-line c = search needs
-
-add-k : tie.Need-add-k
-add-k c = search needs
-
 returns : tie.Need-returns
 returns c =
-    let room = lt-ltb (c .before .args .k .held) 128 (omega arith) in
-    record { bytes = rw room; counts = rw room }
+    let args = c .before .before .before .before .before .before .args in
+    let room = c .before .before .before .before .room-after .result in
+    let is : 128 - args .k .held ≡ room = sym (c .before .before .before .before .room-after .ensures) in
+    record {
+      bytes = rw (is, ← first-part room (now (args .s)) (omega arith), ← c .before .part .ensures) (c .write-bytes .ensures);
+      more = rw (lt-ltb (128 - args .k .held) (length (now (args .s))) (omega arith));
+    }
 
 returns-2 : tie.Need-returns-2
 returns-2 c =
-    let full = le-ltb (c .before .args .k .held) 128 (omega arith) in
-    record { bytes = rw full; counts = rw full }
+    let args = c .before .before .before .before .before .args in
+    record {
+      bytes = rw (take-all (128 - args .k .held) (now (args .s)) (omega arith)) (c .write-bytes2 .ensures);
+      more = rw (le-ltb (128 - args .k .held) (length (now (args .s))) (omega arith));
+    }
 
 pub keep-spec : {M : Type 1} → statement M
-keep-spec = tie.close (tie.spec element-write-line add-k returns returns-2)
+keep-spec = tie.close (tie.spec (λ c κs. tt) (λ c κs. tt) (λ c κs. tt) returns (λ c κs. tt) returns-2)
