@@ -54,6 +54,8 @@ make_archive() { # CRATE: sets x86_archive and native_archive
     say "proving and compiling $1"
     mkdir -p "$out"
     rm -f "$out/$1.sum"
+    # rt staticlib would prove what it rests on one crate after the other
+    "$here/prove" --below "$1" >/dev/null || fail 2 "what $1 rests on is not proved"
     if [ "$machine" = aarch64 ]; then
         make_both "$1"
     else
