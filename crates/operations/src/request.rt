@@ -18,7 +18,7 @@ use lines::read_signed;
 use lines::read_unsigned;
 use lines::read_word;
 
-// The operands of a request: words, numbers and the start of a text by their place; the signed number and the attribute, if there is one.
+// The operands of a request: words, numbers and the length of a text by their place; the signed number and the attribute, if there is one.
 pub struct Operands {
     pub x: u64,
     pub y: u64,
@@ -87,14 +87,14 @@ fn read_attribute(f: &[u8]) -> Taken {
     of_field(read_unsigned(f))
 }
 
-// The field from the place `from` on.
-fn read_field(f: &[u8], kind: u8, from: usize) -> Taken {
+// A text may be anything: its length is taken.
+fn read_field(f: &[u8], kind: u8) -> Taken {
     match kind {
         b'W' => of_field(read_word(f, 16)),
         b'w' => of_field(read_word(f, 8)),
         b'N' => of_signed(read_signed(f)),
         b'U' => of_field(read_unsigned(f)),
-        _ => valued(from as u64, 0),
+        _ => valued(f.len() as u64, 0),
     }
 }
 
@@ -174,7 +174,7 @@ fn read_operands(s: &[u8], first: Request, from: usize) -> Request {
         let begin = at + 1;
         at = end_of(s, begin, kind);
         let f = part(s, begin, at);
-        r = with_operand(r, read_field(f, kind, begin), kind, place, f.len());
+        r = with_operand(r, read_field(f, kind), kind, place, f.len());
         if r.complaint.what != FINE {
             return r;
         }

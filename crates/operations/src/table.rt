@@ -10,11 +10,13 @@ use lines::find;
 use lines::part;
 use lines::write_bytes;
 
+const SIZE: usize = 237;
+
 // A row for each operation: its name, of any length, the kinds of up to three operands and those of up to three answers. A name that ends in a dot takes
 // an attribute after it. An operation's number is that of its row, from 0 on.
 //     W  a word of 64 bits    N  a signed number       T  a text, to the end of the request
 //     w  a word of 32 bits    U  an unsigned number    F  flags    -  nothing
-const TABLE: [u8; 237] = *b"floor64 W-- WF-
+const TABLE: [u8; SIZE] = *b"floor64 W-- WF-
 floor32 w-- wF-
 trunc64 W-- WF-
 trunc32 w-- wF-
@@ -30,8 +32,6 @@ sqrt32 w-- wF-
 fma64 WWW W--
 fma32 www w--
 ";
-
-const SIZE: usize = 237;
 
 // The attributes of rounding by name, in the order of their numbers.
 const ATTRIBUTES: [u8; 63] = *b"even --- ---

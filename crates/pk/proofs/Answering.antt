@@ -3,7 +3,7 @@ use mathlib.Core.Path.{_≡_, sym, ap}
 use mathlib.Core.List.{List}
 use Prim.Native.Nat.{ℕ, zero, suc, _≤_}
 use native.Mathlib.Omega.{arith}
-use lib.ListN.{getD, List·getD-eq-default}
+use lib.ListN.{length, getD, List·getD-eq-default}
 use Rattle.operations.specs.declared.line.Answers.{Answers}
 use Rattle.operations.specs.declared.request.Operands.{Operands}
 use Rattle.operations.specs.Table.{Operation, operations, unnamed, two, answersOf}
@@ -24,9 +24,9 @@ past (suc k) n o =
     let e : n ≡ k → ⊥ = o .1 in
     omega arith
 
-pub no-row : {number : ℕ} (a : Operands) {r : Answers} → Others 15 number → r ≡ two 0 0 → r ≡ answersOf number a
+pub no-row : {number : ℕ} (a : Operands) {r : Answers} → Others (length operations) number → r ≡ two 0 0 → r ≡ answersOf number a
 unfolding answersOf
-no-row {number} a o h = rw h (sym (ap (λ (o : Operation). o .answers a) (List·getD-eq-default operations unnamed {n = number} (past 15 number o))))
+no-row {number} a o h = rw h (sym (ap (λ (o : Operation). o .answers a) (List·getD-eq-default operations unnamed {n = number} (past (length operations) number o))))
 
 -- both parts of an answer are known
 pub both : {A B : Type 0} (m : A → B → Answers) {r : Answers} {v w : A} {s t : B} → r ≡ m v s → (v ≡ w) × (s ≡ t) → r ≡ m w t

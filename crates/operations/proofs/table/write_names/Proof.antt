@@ -12,7 +12,7 @@ abbrev Inv-loop : tie.InvT-loop
 Inv-loop out₀ at table end₀ from₀ t7 out end from = length out ≡ length out₀
 
 abbrev μ-loop : tie.MeasureT-loop
-μ-loop out₀ at table end₀ from₀ t7 out end from = 237 + 9 - from
+μ-loop out₀ at table end₀ from₀ t7 out end from = length table + 9 - from
 
 loop-less : tie.Need-loop-less Inv-loop μ-loop
 loop-less c =
