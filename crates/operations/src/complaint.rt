@@ -39,7 +39,7 @@ fn kind_text(kind: u8) -> u8 {
         b'N' => Text::Integer as u8,
         b'U' => Text::Natural as u8,
         b'A' => Text::Attribute as u8,
-        _ => Text::Nothing as u8,
+        _ => Text::AnyText as u8,
     }
 }
 

@@ -76,7 +76,8 @@ fn with_flag(l: Line, flags: u64, bit: u64, name: u8) -> Line {
 }
 
 // The flags that are raised, by the bits that libm has for them.
-fn with_flags(l: Line, flags: u64) -> Line {
+fn with_flags(l: Line, word: u64) -> Line {
+    let flags = word & 61;
     if flags == 0 {
         return with_text(l, Text::Ok as u8);
     }

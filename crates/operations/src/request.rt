@@ -198,13 +198,9 @@ fn with_attribute(mut r: Request, f: &[u8]) -> Request {
     r
 }
 
-// The place after the dot in the first field, which ends at `end`, or that end.
-fn after_dot(s: &[u8], end: usize) -> usize {
-    let dot = find(s, 0, b'.');
-    if dot < end {
-        return dot + 1;
-    }
-    end
+// Where the name ends: after the first dot, where one stands before `end`.
+fn name_end(dot: usize, end: usize) -> usize {
+    if dot < end { dot + 1 } else { end }
 }
 
 // What is wrong with the fields of s, before a text, whatever they say.
@@ -232,15 +228,16 @@ fn fields_end(s: &[u8], row: Row, end: usize) -> usize {
 // What the whole of s asks.
 pub fn read_request(s: &[u8]) -> Request {
     let end = find(s, 0, b' ');
-    let dot = after_dot(s, end);
-    let row = row_of(part(s, 0, dot));
+    let dot = find(s, 0, b'.');
+    let from = name_end(dot, end);
+    let row = row_of(part(s, 0, from));
     let flaw = flaw_of(part(s, 0, fields_end(s, row, end)), row);
     let mut r = start(row, flaw);
     if flaw != FINE {
         return r;
     }
     if dot < end {
-        r = with_attribute(r, part(s, dot, end));
+        r = with_attribute(r, part(s, from, end));
     }
     if r.complaint.what != FINE {
         return r;

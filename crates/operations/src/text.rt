@@ -35,7 +35,7 @@ pub enum Text {
     Integer,
     Natural,
     Attribute,
-    Nothing,
+    AnyText,
     TooLong,
     CarriageReturn,
     BlankTooMany,
@@ -61,7 +61,7 @@ pub enum Text {
 }
 
 // A text ends before a bar. One is found from the start, so those that lines have most stand first.
-const TEXTS: [u8; 1133] = *b" ->|
+const TEXTS: [u8; 1132] = *b" ->|
  |
 OK|
 INEXACT|
@@ -91,7 +91,7 @@ is out of range|
 a decimal number from -2147483648 to 2147483647|
 a decimal number from 0 to 4294967295|
 even, zero, down, up, away or a decimal number from 0 to 4294967295|
-nothing|
+a text|
 the line is too long; expected a request of at most 124 characters|
 a carriage return stands in the request; expected a line feed alone|
 a blank too many; expected single blanks between fields|
