@@ -217,7 +217,7 @@ fn flaw_of(s: &[u8], row: Row) -> u8 {
     Text::Unknown as u8
 }
 
-// Where the fields end: a text is a first operand, and goes on to the end.
+// Where the fields end: a text is no field, and goes on to the end.
 fn fields_end(s: &[u8], row: Row, end: usize) -> usize {
     if taken(row, 0) == b'T' {
         return end;

@@ -14,7 +14,7 @@ const SIZE: usize = 237;
 
 // A row for each operation: its name, of any length, the kinds of up to three operands and those of up to three answers. A name that ends in a dot takes
 // an attribute after it. An operation's number is that of its row, from 0 on.
-//     W  a word of 64 bits    N  a signed number       T  a text, to the end of the request
+//     W  a word of 64 bits    N  a signed number       T  a text, as the only operand
 //     w  a word of 32 bits    U  an unsigned number    F  flags    -  nothing
 const TABLE: [u8; SIZE] = *b"floor64 W-- WF-
 floor32 w-- wF-
