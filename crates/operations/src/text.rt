@@ -9,19 +9,19 @@ pub enum Text {
     Blank,
     Ok,
     Inexact,
+    Colon,
+    Has,
     Invalid,
     ErrorLine,
-    Colon,
-    Operand,
     Expected,
-    Has,
+    Operand,
+    TheLine,
     Characters,
     Hex16,
+    Character,
     WrongDigit,
     Unknown,
     Hex8,
-    Character,
-    TheLine,
     Empty,
     Plus,
     DivByZero,
@@ -65,19 +65,19 @@ const TEXTS: [u8; 1132] = *b" ->|
  |
 OK|
 INEXACT|
+: |
+has |
 INVALID|
 error: line |
-: |
-operand |
 ; expected |
-has |
+operand |
+the line |
  characters|
 16 lower-case hex digits|
+ character|
 has a wrong digit|
 unknown operation; expected one of|
 8 lower-case hex digits|
- character|
-the line |
 is empty|
 +|
 DIVBYZERO|
