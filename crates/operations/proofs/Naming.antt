@@ -2,14 +2,13 @@
 use mathlib.Core.Path.{_≡_, refl, sym, ap, _∙_}
 use mathlib.Core.Bool.{Bool, true, false, cond, _&&_, not}
 use mathlib.Core.List.{List, [], _∷_, _++_, append-assoc}
-use Prim.Native.Nat.{ℕ, suc, _+_, _-_, _≤_, _<_, min}
+use Prim.Native.Nat.{ℕ, suc, _+_, _-_, _≤_, _<_}
 use native.Mathlib.Omega.{arith}
 use lib.Dec.{T, eqb, eqb→eq, eqb-refl}
 use lib.ListN.{length, drop, take, length-append}
 use lib.Seq.{drop-at, take-at}
 use borrow.Author.Tests.{le-leb}
 use Rattle.lines.specs.Places.{starts, ahead, placeOf, partOf}
-use Rattle.operations.specs.declared.table.Row.{Row}
 use Rattle.operations.specs.Naming.{Named, lineOf, textOf, without, clean, same, rowIn}
 
 -- a place that is found is not before the one where the search began

@@ -1,5 +1,5 @@
 -- Tables of names as text, and the row that a name has in one. Assumes nothing.
-use Prim.Native.Nat.{ℕ, suc, _+_}
+use Prim.Native.Nat.{ℕ, _+_}
 use Prim.Native.Char.{code}
 use Prim.Native.String.{String, [] as ε, _∷_ as _▹_}
 use mathlib.Core.Bool.{Bool, true, false, cond, _&&_, not}

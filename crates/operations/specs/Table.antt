@@ -1,7 +1,7 @@
 -- The operations by name: what each takes and gives, and the definition that answers it. Assumes nothing.
 use Prim.Native.Nat.{ℕ, _%_}
 use Prim.Native.String.{String}
-use mathlib.Core.List.{List, [], _∷_, map}
+use mathlib.Core.List.{List, [], _∷_}
 use lib.IntN.{ℤ, pos}
 use lib.ListN.{getD}
 use Rattle.ieee.specs.Format.{b64, b32}

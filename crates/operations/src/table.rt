@@ -3,7 +3,7 @@ ghost use mathlib.Core.Path.{_≡_};
 ghost use Prim.Native.Nat.{_≤_};
 ghost use lib.Dec.{T};
 ghost use mathlib.Core.List.{List};
-ghost use lib.ListN.{getD, length};
+ghost use lib.ListN.{length};
 ghost use Rattle.operations.specs.Naming.{Named, clean, textOf, rowIn};
 ghost use Rattle.operations.specs.Table.{rowOf, kindAt, attributeOf};
 use lines::find;

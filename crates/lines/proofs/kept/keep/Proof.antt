@@ -1,13 +1,11 @@
 -- `lines::kept::keep` meets its contract: by whether all bytes have room. Assumes nothing.
-use mathlib.Core.Path.{_≡_, sym, _∙_}
-use mathlib.Core.List.{List}
-use Prim.Native.Nat.{ℕ, _-_}
+use mathlib.Core.Path.{_≡_, sym}
+use Prim.Native.Nat.{_-_}
 use native.Mathlib.Omega.{arith}
-use lib.ListN.{length, take}
+use lib.ListN.{length}
 use lib.Seq.{take-all}
 use borrow.Author.Tests.{lt-ltb, le-ltb}
 use denote.Ref.{now}
-use Rattle.writers.specs.Placed.{Placed}
 use Rattle.lines.proofs.Scanning.{first-part}
 use Rattle.lines.proofs.kept.keep.Statement.{statement}
 use Rattle.lines.proofs.kept.keep.Tie as tie

@@ -1,5 +1,5 @@
 -- `operations::request::read_operands` is safe and ends. Assumes nothing.
-use Prim.Native.Nat.{_+_, _-_}
+use Prim.Native.Nat.{_-_}
 use borrow.Author.Needs.{needs}
 use Rattle.operations.proofs.request.read_operands.Statement.{statement}
 use Rattle.operations.proofs.request.read_operands.Tie as tie

@@ -1,5 +1,4 @@
 -- `operations::text::start_of` is safe and ends. Assumes nothing.
-use Prim.Native.Nat.{_+_, _-_}
 use borrow.Author.Needs.{needs}
 use Rattle.operations.proofs.text.start_of.Statement.{statement}
 use Rattle.operations.proofs.text.start_of.Tie as tie
