@@ -11,7 +11,7 @@ pub trait Answer: Copy {
     fn mixed(self) -> u64;
     /// Whether two answers are alike; any two NaNs are.
     fn same(self, other: Self) -> bool;
-    /// Whether the values are alike, and ours is INEXACT where the crate's is OK.
+    /// Whether the values are alike, and ours is INEXACT where libm's is OK.
     fn is_inexact_beside_ok(self, _: Self) -> bool {
         false
     }

@@ -1,4 +1,4 @@
-//! Times the archive's operations beside the crate's. Built and run by tools/bench, which chooses what is measured.
+//! Times the archive's operations beside libm's. Built and run by tools/bench, which chooses what is measured.
 
 mod answers;
 #[path = "../plain/big.rs"]

@@ -23,7 +23,7 @@ macro_rules! names {
 macro_rules! call {
     ($function:expr, ($($x:ident: $type:ty),+), $stir:expr) => { $function($($x ^ $stir as $type),+) };
 }
-/// Whether the crate is known to say OK of the first operand, where ours is INEXACT.
+/// Whether libm is known to say OK of the first operand, where ours is INEXACT.
 macro_rules! is_half {
     ($name:ident, ($x:ident: $type:ty $(, $rest:ident: $other:ty)*)) => {{
         $(let _ = $rest;)*
@@ -72,12 +72,12 @@ macro_rules! operations {
     };
 }
 
-// Where the crate answers two words at once and the archive has an export for each, all are called on our side.
+// Where libm answers two words at once and the archive has an export for each, all are called on our side.
 // Empty calls come first: two functions that do nothing, called as the two sides are. They show what a call costs
 // by itself, and how near to 1 the ratio of two equal things comes.
 // tools/bench reads the names of this table and the sets at the end of each row.
 operations! {
-//  name              operands                     ours: exports and their answers               the crate's, on patterns                                          sets
+//  name              operands                     ours: exports and their answers               libm's, on patterns                                               sets
     empty64           (x: u64)                     [identity64: u64]                             { x }                                                             [patterns];
     empty32           (x: u32)                     [identity32: u32]                             { x }                                                             [patterns];
     trunc64           (x: u64)                     [pk_trunc64: u64]                             { generic::trunc_status(f64::from_bits(x)).val.to_bits() }        [patterns, fractions];
@@ -106,7 +106,7 @@ operations! {
     fma32             (x: u32, y: u32, z: u32)     [pk_fma32: u32]                               { fmaf(f32::from_bits(x), f32::from_bits(y), f32::from_bits(z)).to_bits() } [patterns, level, spread, cancelling, tiny];
 }
 
-/// The list call, a row for each of its operations by their numbers. Ours is one call; the crate's side is a plain loop
+/// The list call, a row for each of its operations by their numbers. Ours is one call; libm's side is a plain loop
 /// that calls its function for each place, from one slice into another.
 macro_rules! lists {
     ($($name:ident $operand:tt $number:literal { $theirs:expr } [$($set:ident),+];)+) => {
@@ -127,7 +127,7 @@ macro_rules! lists {
 
 // tools/bench reads these rows too.
 lists! {
-//  name              operand   number  the crate's, on patterns                                   sets
+//  name              operand   number  libm's, on patterns                                        sets
     list64_sqrt       (x: u64)  1       { root64(x).val.to_bits() }                                [patterns, positive];
     list64_floor      (x: u64)  2       { generic::floor_status(f64::from_bits(x)).val.to_bits() } [patterns, fractions];
     list64_trunc      (x: u64)  3       { generic::trunc_status(f64::from_bits(x)).val.to_bits() } [patterns, fractions];
@@ -169,7 +169,7 @@ fn both32(result: FpResult<f32>) -> (u32, u32) {
     (result.val.to_bits(), number(result.status))
 }
 
-/// The remainder alone. The crate's call makes the quotient too, and what nobody asks for the compiler would leave out.
+/// The remainder alone. libm's call makes the quotient too, and what nobody asks for the compiler would leave out.
 fn rest64((rest, quotient): (f64, i32)) -> u64 {
     std::hint::black_box(quotient);
     rest.to_bits()
@@ -178,7 +178,7 @@ fn with_quotient((rest, quotient): (f64, i32)) -> (u64, i32) {
     (rest.to_bits(), quotient)
 }
 
-/// The status's own byte. It is private in the crate, and asking for it by comparisons would be charged to the crate.
+/// The status's own byte. It is private in libm, and asking for it by comparisons would be charged to libm.
 fn number(status: Status) -> u32 {
     unsafe { std::mem::transmute::<Status, u8>(status) as u32 }
 }

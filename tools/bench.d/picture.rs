@@ -2,7 +2,7 @@
 
 use crate::run::Row;
 
-/// What was aimed at, in times of the crate for one call; docs/BENCH.md says so in words.
+/// What was aimed at, in times of libm for one call; docs/BENCH.md says so in words.
 const AIMS: [(f64, &[&str]); 2] = [
     (1.5, &["trunc64", "trunc32", "floor64", "floor32", "scalbn64", "scalbn32"]),
     (1.3, &["fma64", "fmod64", "fmod32", "reduce64", "reduce32"]),

@@ -5,7 +5,7 @@ use crate::run::{Row, Run};
 const COLUMNS: usize = 9;
 const HEADS: [&str; COLUMNS] = [
     "operation", "operands", "calls",
-    "ours, least", "ours, median", "crate, least", "crate, median", "ratio of leasts", "ratio of medians",
+    "ours, least", "ours, median", "libm, least", "libm, median", "ratio of leasts", "ratio of medians",
 ];
 /// The columns of words, which stand to the left; figures stand to the right.
 const WORDS: usize = 3;
@@ -21,7 +21,7 @@ pub fn text(run: &Run) -> String {
         some => format!("\n**The two sides do not answer alike**: {}.\n", some.join("; ")),
     };
     if !oracle::api::STATUSES {
-        text += "The crate's statuses are those of a later text, and are not compared.\n";
+        text += "libm's statuses are those of a later text, and are not compared.\n";
     }
     text
 }

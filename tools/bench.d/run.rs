@@ -13,7 +13,7 @@ pub struct Row {
 }
 
 impl Row {
-    /// Of the leasts, ours to the crate's.
+    /// Of the leasts, ours to libm's.
     pub fn ratio(&self) -> f64 {
         self.ours.least / self.theirs.least
     }
