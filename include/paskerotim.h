@@ -1,17 +1,18 @@
 /* Paskerotim: sqrt, fma, fmod, remquo, scalbn, floor and trunc on bit patterns, a call on lists of patterns, and a reduction
-   of whole numbers. Whole-number arithmetic only, so that every machine gives the same bits.
+   of whole numbers, all computed in whole-number arithmetic.
 
    A pattern is the bits of an IEEE 754 number as an unsigned integer: binary64 in a uint64_t, binary32 in a uint32_t. memcpy
    takes a double or a float there and back. A name ends in the width, and then in what is given if that is not the value:
    pk_sqrt64, pk_sqrt64_status. What has two parts, as a value and its status, is two functions of the same operands.
 
-   Every function is proved to give the answer described here, for every input.
+   Every function is proved to give the answer described here, for every input. docs/TRUST.md says what that rests on.
    - Every pattern is answered: every NaN, infinity, zero and subnormal number too. Only the reduction and the list call
      refuse, by a number.
-   - A call has no effect but its answer, which depends on its arguments alone; the list call writes its output besides.
-     It needs no rounding mode and sets none, raises no floating-point flag, keeps no state and allocates nothing, and may
-     be made from any thread at any time.
+   - An answer depends on the arguments alone. The list call writes its output besides, and nothing else is written.
    - No call can fail, and none asks anything of its caller, but for the pointers of the list call.
+
+   Tested and not proved: a call needs no rounding mode and sets none, raises no floating-point flag, keeps no state,
+   allocates nothing, and may be made from any thread at any time. The answers are the same on x86-64 and on Arm.
 
    "Rounded once" is rounded to nearest: no number of the format is nearer to the exact value, and of two that are equally
    near the answer is the one whose last bit is 0. From halfway between the largest finite number and the power of two

@@ -1,11 +1,10 @@
-//! Floating-point arithmetic that gives the same bits on every machine.
+//! Floating-point arithmetic on bit patterns, computed in whole numbers alone.
 //!
-//! Seven operations, computed on bit patterns in whole-number arithmetic only, so that no
-//! processor's own arithmetic and no setting of it has a say in the answer: [`sqrt64`], [`fma64`],
-//! [`fmod64`], [`remquo64`], [`scalbn64`], [`floor64`] and [`trunc64`], and the same at 32 bits but
-//! for remquo; with them [`list64`], which does one operation on a list, and [`reduce64`], a
-//! reduction of whole numbers. Each is proved, in the archive that this crate links, to give the
-//! answer described here for every input.
+//! Seven operations: [`sqrt64`], [`fma64`], [`fmod64`], [`remquo64`], [`scalbn64`], [`floor64`] and
+//! [`trunc64`], and the same at 32 bits but for remquo; with them [`list64`], which does one
+//! operation on a list, and [`reduce64`], a reduction of whole numbers. Each is proved, in the
+//! archive that this crate links, to give the answer described here for every input; the
+//! repository's `docs/TRUST.md` says what that rests on, and what is tested and not proved.
 //!
 //! A *pattern* is the bits of a number, as `f64::to_bits` and `f32::to_bits` give them. What a
 //! function gives depends on its arguments alone. No call can fail, none asks anything of its
@@ -19,7 +18,7 @@
 //!
 //! The *canonical NaN* is [`NAN64`] or [`NAN32`]. It is the only NaN that any operation answers.
 //!
-//! The functions under the names of the crate libm, [`sqrt`], [`sqrtf`], [`remquo`] and so on, take
+//! The functions under libm's names, [`sqrt`], [`sqrtf`], [`remquo`] and so on, take
 //! and give `f64` and `f32` with libm's types. They are the functions on patterns between `to_bits`
 //! and `from_bits`, and nothing else. Where the bits of a NaN matter, patterns are the safer
 //! choice: a machine may change them when it moves a number about, though neither x86-64 nor Arm
