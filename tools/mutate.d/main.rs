@@ -50,14 +50,7 @@ fn all_of(options: &Options) -> Result<bool, String> {
     }
     let (equals, shown) = equals(options)?;
     let mut is_well = hold(&all, &equals, &shown, &waiting);
-    let least = match options.amount {
-        Amount::Each(n) => n,
-        _ => 1,
-    };
-    for f in chosen.iter().filter(|f| waiting[f].len() < least) {
-        let (name, n) = (&all.functions[*f].name, waiting[f].len());
-        eprintln!("mutate: of {name} there are {n} mutants, and no more");
-    }
+    tell_few(&all, options, &waiting);
     let slots = slots(&all, options, &waiting);
     eprintln!(
         "mutate: seed {}, {} functions, {} mutants to be tried",
@@ -81,6 +74,18 @@ fn all_of(options: &Options) -> Result<bool, String> {
     let mut tried = run::run(&all, options, slots, waiting)?;
     is_well &= report::report(&all, &equals, &shown, &mut tried);
     Ok(is_well)
+}
+
+// Functions of which there are fewer mutants than are wanted.
+fn tell_few(all: &Sources, options: &Options, waiting: &Waiting) {
+    let least = match options.amount {
+        Amount::Each(n) => n,
+        _ => 1,
+    };
+    for (f, mutants) in waiting.iter().filter(|(_, w)| w.len() < least) {
+        let (name, n) = (&all.functions[*f].name, mutants.len());
+        eprintln!("mutate: of {name} there are {n} mutants, and no more");
+    }
 }
 
 fn chosen(all: &Sources, options: &Options) -> Result<Vec<usize>, String> {

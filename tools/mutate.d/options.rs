@@ -26,27 +26,13 @@ pub struct Options {
 }
 
 pub fn options(words: &[String]) -> Result<Options, String> {
-    let mut o = Options {
-        root: folder("MUTATE_ROOT")?,
-        work: folder("MUTATE_WORK")?,
-        room: folder("MUTATE_ROOM")?,
-        seed: 1,
-        crates: Vec::new(),
-        functions: Vec::new(),
-        is_library: false,
-        amount: Amount::Each(3),
-        jobs: std::thread::available_parallelism()
-            .map_or(1, |n| n.get())
-            .min(8),
-        seconds: 120,
-        keep: None,
-        is_list: false,
-        equal: None,
-    };
-    let amounts = words
-        .iter()
-        .filter(|w| *w == "--each" || *w == "--sample")
-        .count();
+    let mut o = standard()?;
+    let amounts = words.iter().filter(|w| *w == "--each" || *w == "--sample");
+    if amounts.count() > 1 {
+        return Err(
+            "--each and --sample exclude each other, and neither is given twice".to_string(),
+        );
+    }
     let mut words = words.iter();
     while let Some(word) = words.next() {
         match word.as_str() {
@@ -59,15 +45,28 @@ pub fn options(words: &[String]) -> Result<Options, String> {
             name => o.crates.push(name.to_string()),
         }
     }
-    if amounts > 1 {
-        return Err(
-            "--each and --sample exclude each other, and neither is given twice".to_string(),
-        );
-    }
     if o.is_library && !o.crates.is_empty() {
         return Err("--library and a crate exclude each other".to_string());
     }
     Ok(o)
+}
+
+fn standard() -> Result<Options, String> {
+    Ok(Options {
+        root: folder("MUTATE_ROOT")?,
+        work: folder("MUTATE_WORK")?,
+        room: folder("MUTATE_ROOM")?,
+        seed: 1,
+        crates: Vec::new(),
+        functions: Vec::new(),
+        is_library: false,
+        amount: Amount::Each(3),
+        jobs: std::thread::available_parallelism().map_or(1, |n| n.get().min(8)),
+        seconds: 120,
+        keep: None,
+        is_list: false,
+        equal: None,
+    })
 }
 
 // tools/mutate names the repository, a folder to work in, and one for tools/prove.

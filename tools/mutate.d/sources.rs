@@ -111,56 +111,51 @@ fn module_of(krate: &str, path: &Path) -> String {
 fn items(all: &mut Sources, krate: &str, module: &str) -> Result<(), String> {
     let file = all.files.len() - 1;
     let tokens = all.files[file].tokens.clone();
+    let find = |from: usize, text: &str| (from..tokens.len()).find(|i| tokens[*i].text == text);
+    let is_at = |at: usize, text: &str| tokens.get(at).is_some_and(|t| t.text == text);
     let mut at = 0;
     while at < tokens.len() {
-        let name = tokens
-            .get(at + 1)
-            .map_or("", |t| t.text.as_str())
-            .to_string();
+        let name = tokens.get(at + 1).map_or("", |t| &t.text).to_string();
         match tokens[at].text.as_str() {
             "fn" => {
                 let seen = signature(&tokens, at + 2).ok_or_else(|| {
-                    format!(
-                        "{}: the function {name} is not understood",
-                        all.files[file].path
-                    )
+                    let path = &all.files[file].path;
+                    format!("{path}: the function {name} is not understood")
                 })?;
-                let types = seen.params.iter().map(|p| p.1.clone()).collect();
-                all.signatures
-                    .entry(name.clone())
-                    .or_default()
-                    .push((types, seen.result.clone()));
                 at = seen.body.1;
-                if seen.body.0 < seen.body.1 {
-                    let whole = format!("{module}::{name}");
-                    all.functions.push(Function {
-                        name: whole,
-                        krate: krate.to_string(),
-                        file,
-                        ..seen
-                    });
-                }
+                add(all, krate, module, &name, Function { file, ..seen });
             }
-            "struct" if tokens.get(at + 2).is_some_and(|t| t.text == "{") => {
+            "struct" if is_at(at + 2, "{") => {
                 let end = closing(&tokens, at + 2);
                 all.structs.insert(name, typed(&tokens[at + 3..end]));
                 at = end;
             }
-            "const" if tokens.get(at + 2).is_some_and(|t| t.text == ":") => {
-                let end = (at..tokens.len())
-                    .find(|i| tokens[*i].text == "=")
-                    .unwrap_or(at + 3);
-                all.constants
-                    .insert(name, (joined(&tokens[at + 3..end]), module.to_string()));
-                at = (end..tokens.len())
-                    .find(|i| tokens[*i].text == ";")
-                    .unwrap_or(end);
+            "const" if is_at(at + 2, ":") => {
+                let end = find(at, "=").unwrap_or(at + 3);
+                let ty = joined(&tokens[at + 3..end]);
+                all.constants.insert(name, (ty, module.to_string()));
+                at = find(end, ";").unwrap_or(end);
             }
             _ => {}
         }
         at += 1;
     }
     Ok(())
+}
+
+// A signature, and where it has a body the function.
+fn add(all: &mut Sources, krate: &str, module: &str, name: &str, seen: Function) {
+    let types = seen.params.iter().map(|p| p.1.clone()).collect();
+    let like = all.signatures.entry(name.to_string()).or_default();
+    like.push((types, seen.result.clone()));
+    if seen.body.0 < seen.body.1 {
+        let (name, krate) = (format!("{module}::{name}"), krate.to_string());
+        all.functions.push(Function {
+            name,
+            krate,
+            ..seen
+        });
+    }
 }
 
 // From the parenthesis after a function's name on. A function without a body ends at its semicolon.

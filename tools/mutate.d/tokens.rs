@@ -60,10 +60,11 @@ fn passed_over(rest: &str) -> usize {
     rest.chars().next().map_or(1, char::len_utf8)
 }
 
-// How much of the text up to and with a clause's closing brace is no token of Rattle; nothing where no brace follows.
+// How much of the text up to and with a clause's closing brace is no token of Rattle; nothing where no brace follows. A clause may have a name before it.
 fn clause(rest: &str) -> usize {
-    let blank = rest.len() - rest.trim_start().len();
-    if !rest[blank..].starts_with('{') {
+    let named = rest.trim_start();
+    let name = span(named, |c| c.is_alphanumeric() || c == '_');
+    if !named[name..].trim_start().starts_with('{') {
         return 0;
     }
     let mut depth = 0;

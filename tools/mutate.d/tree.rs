@@ -187,22 +187,28 @@ impl Parser<'_> {
         let start = self.start();
         self.needs("let")?;
         self.takes("mut");
-        let name = self.text().to_string();
-        self.at += 1;
+        let name = self.passed(&[":", "="]);
         let mut ty = None;
         if self.takes(":") {
-            ty = Some(self.written_type(&["="]));
+            ty = Some(self.passed(&["="]));
         }
         self.needs("=")?;
-        let value = self.expression(true)?;
+        let mut kids = vec![self.expression(true)?];
+        if self.takes("else") {
+            kids.push(self.block()?);
+        }
         self.needs(";")?;
-        let ty = ty.or_else(|| self.nodes[value].ty.clone());
-        let id = self.add(Form::Let, start, &name, vec![value]);
-        self.scope.push((name, ty));
+        let ty = ty.or_else(|| self.nodes[kids[0]].ty.clone());
+        let id = self.add(Form::Let, start, &name, kids);
+        // a pattern names nothing that is known
+        if name.chars().all(|c| c.is_alphanumeric() || c == '_') {
+            self.scope.push((name, ty));
+        }
         Ok(id)
     }
 
-    fn written_type(&mut self, ends: &[&str]) -> String {
+    // The text of a type or a pattern.
+    fn passed(&mut self, ends: &[&str]) -> String {
         let mut text = String::new();
         let mut depth = 0;
         while self.at < self.end && (depth > 0 || !ends.contains(&self.text())) {
@@ -422,6 +428,10 @@ impl Parser<'_> {
     fn branch(&mut self) -> Parsed {
         let start = self.start();
         self.needs("if")?;
+        if self.takes("let") {
+            self.passed(&["="]);
+            self.needs("=")?;
+        }
         let mut kids = vec![self.expression(false)?, self.block()?];
         if self.takes("else") {
             kids.push(if self.text() == "if" {
