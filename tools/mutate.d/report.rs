@@ -41,7 +41,7 @@ impl Tally {
             Outcome::Form => self.form += 1,
             Outcome::Survived => self.survived += 1,
             Outcome::Unsettled => self.unsettled += 1,
-            Outcome::NotCompiled | Outcome::Broken => self.not_compiled += 1,
+            Outcome::NotCompiled => self.not_compiled += 1,
         }
         self.equal += usize::from(is_equal && tried.verdict.outcome == Outcome::Survived);
         if tried.verdict.outcome != Outcome::NotCompiled {
@@ -85,7 +85,7 @@ pub fn report(all: &Sources, equals: &[Equal], shown: &str, tried: &mut [Tried])
                 println!("{line}: survived, an equal program: {}", e.why)
             }
             (Outcome::Survived, None) => println!("{line}: SURVIVED"),
-            (Outcome::Unsettled, _) => println!("{line}: NOT SETTLED, after {:.0} s", one.seconds),
+            (Outcome::Unsettled, _) => println!("{line}: NOT SETTLED: {}", one.verdict.first),
             (Outcome::Fact | Outcome::Form, Some(e)) => {
                 println!(
                     "{shown}:{}: error: listed as an equal program, and refused: {}",

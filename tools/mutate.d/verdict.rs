@@ -8,9 +8,8 @@ pub enum Outcome {
     Form,
     Survived,
     NotCompiled,
-    // out of time, or the prover could not tell
+    // out of time, the prover could not tell, or the toolchain failed
     Unsettled,
-    Broken,
 }
 
 // What the prover says of something that must hold and is not met.
@@ -40,7 +39,7 @@ const WAITS: &str = "so this cannot be checked";
 
 pub struct Verdict {
     pub outcome: Outcome,
-    // the first error that counts
+    // the first error that counts, or why nothing is settled
     pub first: String,
     // functions that are refused for themselves
     pub refused: Vec<String>,
@@ -53,17 +52,19 @@ pub fn verdict(status: Option<i32>, log: &str) -> Verdict {
         .map(str::to_string)
         .collect();
     let has = |start: &str| log.lines().any(|l| l.starts_with(start));
-    let (sorted, first) = sorted(log);
-    let outcome = match status {
-        Some(0) if has("logic=proved") => Outcome::Survived,
+    let sorted = sorted(log);
+    let (outcome, first) = match status {
+        Some(0) if has("logic=proved") => (Outcome::Survived, ""),
         Some(1) if has("logic=not-proved") => sorted,
-        Some(1) => Outcome::NotCompiled,
-        Some(3) | None => Outcome::Unsettled,
-        _ => Outcome::Broken,
+        Some(1) => (Outcome::NotCompiled, sorted.1),
+        None => (Outcome::Unsettled, "the time was up"),
+        Some(3) => (Outcome::Unsettled, "the prover could not tell"),
+        _ => (Outcome::Unsettled, "the toolchain failed"),
     };
+    let first = first.to_string();
     Verdict {
         outcome,
-        first: first.to_string(),
+        first,
         refused,
     }
 }
