@@ -123,10 +123,8 @@ fn items(all: &mut Sources, krate: &str, module: &str) -> Result<(), String> {
                 holder = (format!("{module}::{name}"), closing(&tokens, at + 2));
             }
             "fn" => {
-                let seen = signature(&tokens, at + 2).ok_or_else(|| {
-                    let path = &all.files[file].path;
-                    format!("{path}: the function {name} is not understood")
-                })?;
+                let bad = || format!("{module}: the function {name} is not understood");
+                let seen = signature(&tokens, at + 2).ok_or_else(bad)?;
                 let place = if at < holder.1 { &holder.0 } else { module };
                 at = seen.body.1;
                 add(all, krate, place, &name, Function { file, ..seen });
