@@ -113,17 +113,21 @@ fn items(all: &mut Sources, krate: &str, module: &str) -> Result<(), String> {
     let tokens = all.files[file].tokens.clone();
     let find = |from: usize, text: &str| (from..tokens.len()).find(|i| tokens[*i].text == text);
     let is_at = |at: usize, text: &str| tokens.get(at).is_some_and(|t| t.text == text);
+    // the type whose methods these are, and where they end
+    let mut holder = (String::new(), 0);
     let mut at = 0;
     while at < tokens.len() {
         let name = tokens.get(at + 1).map_or("", |t| &t.text).to_string();
         match tokens[at].text.as_str() {
+            "impl" if is_at(at + 2, "{") => {
+                holder = (format!("{module}::{name}"), closing(&tokens, at + 2));
+            }
             "fn" => {
-                let seen = signature(&tokens, at + 2).ok_or_else(|| {
-                    let path = &all.files[file].path;
-                    format!("{path}: the function {name} is not understood")
-                })?;
+                let bad = || format!("{module}: the function {name} is not understood");
+                let seen = signature(&tokens, at + 2).ok_or_else(bad)?;
+                let place = if at < holder.1 { &holder.0 } else { module };
                 at = seen.body.1;
-                add(all, krate, module, &name, Function { file, ..seen });
+                add(all, krate, place, &name, Function { file, ..seen });
             }
             "struct" if is_at(at + 2, "{") => {
                 let end = closing(&tokens, at + 2);
@@ -144,12 +148,15 @@ fn items(all: &mut Sources, krate: &str, module: &str) -> Result<(), String> {
 }
 
 // A signature, and where it has a body the function.
-fn add(all: &mut Sources, krate: &str, module: &str, name: &str, seen: Function) {
+fn add(all: &mut Sources, krate: &str, place: &str, name: &str, mut seen: Function) {
+    if let Some(own) = seen.params.first_mut().filter(|p| p.0 == "self") {
+        own.1 = place.rsplit("::").next().unwrap_or("").to_string();
+    }
     let types = seen.params.iter().map(|p| p.1.clone()).collect();
     let like = all.signatures.entry(name.to_string()).or_default();
     like.push((types, seen.result.clone()));
     if seen.body.0 < seen.body.1 {
-        let (name, krate) = (format!("{module}::{name}"), krate.to_string());
+        let (name, krate) = (format!("{place}::{name}"), krate.to_string());
         all.functions.push(Function {
             name,
             krate,
@@ -200,7 +207,9 @@ fn typed(tokens: &[Token]) -> Vec<(String, String)> {
     let mut pairs = Vec::new();
     for part in split(tokens) {
         let colon = part.iter().position(|t| t.text == ":");
-        if let Some(at) = colon.filter(|at| *at > 0) {
+        if part.last().is_some_and(|t| t.text == "self") {
+            pairs.push(("self".to_string(), String::new()));
+        } else if let Some(at) = colon.filter(|at| *at > 0) {
             pairs.push((part[at - 1].text.clone(), joined(&part[at + 1..])));
         }
     }
