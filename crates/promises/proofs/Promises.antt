@@ -17,48 +17,59 @@ use Rattle.ieee.specs.Exact.{Value, absolute}
 use Rattle.ieee.specs.Round.{Way, Attribute, ties-to-even, toward-positive, toward-negative, answer}
 use Rattle.ieee.specs.Rule.{Ties, to-even, tiesAttribute, Once, RuleIn}
 use Rattle.ieee.specs.Flags.{Flags, signals, raised}
+use Rattle.ieee.specs.Only.{Only, OnlyFlags}
 use Rattle.ieee.specs.FlagsRule.{FlagsRule, Clean, Unbounded}
 use Rattle.ieee.specs.FlagRows.{SqrtFlagRows, FmaFlagRows, ScalbnFlagRows, WholeFlagRows}
 use Rattle.ieee.specs.Band.{Band}
 use Rattle.ieee.specs.Rounded.{sqrtRounded, fmaRounded, scalbnRounded, ByNumber}
 use Rattle.ieee.specs.Sqrt.{sqrtOf, sqrtStatus, sqrtIn, sqrtFlagsIn, exactSqrt}
+use Rattle.ieee.specs.SqrtRows.{SqrtRows}
 use Rattle.ieee.specs.Fma.{fmaOf, fmaIn, fmaFlagsIn, exactFma, zeroSign}
+use Rattle.ieee.specs.FmaRows.{FmaRows}
 use Rattle.ieee.specs.Scalbn.{scalbnOf, scalbnIn, scalbnFlagsIn, exactScalbn}
+use Rattle.ieee.specs.ScalbnRows.{ScalbnRows}
 use Rattle.ieee.specs.Whole.{truncOf, truncStatus, truncFlags, floorOf, floorStatus, floorFlags, wholeFlagsIn}
+use Rattle.ieee.specs.WholeRule.{Truncated, Floored, WholeRows, FloorRows}
 use Rattle.ieee.specs.StatusRows.{WholeStatusRows}
 use Rattle.ieee.specs.Fmod.{fmodOf}
+use Rattle.ieee.specs.FmodRule.{Left, FmodRows}
 use Rattle.ieee.specs.Remquo.{remquoOf, quotientOf}
+use Rattle.ieee.specs.RemquoRule.{NearestLeft, RemquoRows}
 use Rattle.ieee.specs.Refusal.{Refusal, given, Answer, numberOf, valueOf}
+use Rattle.ieee.specs.RefusalRule.{First, None, Absent}
 use Rattle.ieee.specs.Reduction.{reduceOf}
+use Rattle.ieee.specs.ReductionRule.{ReducedAs}
 use Rattle.ieee.specs.Lists.{listLimit, Listed, listOf}
+use Rattle.ieee.specs.ListRule.{ListedAs}
 use Rattle.ieee.specs.Numbers.{Numbers64, Numbers32, Statuses, FlagNumbers, Limits}
 use Rattle.ieee.specs.Cases.{Cases}
 use Rattle.ieee.specs.FlagCases.{FlagCases}
+use Rattle.ieee.specs.Lazy.{Lazy}
 use Rattle.ieee.proofs.Formats.{fair64, fair32, numbers64, numbers32, statuses, flag-numbers, limits}
 use Rattle.ieee.proofs.Patterns.{finite-is}
-use Rattle.ieee.proofs.Refusals.{First, None, Absent, given-first, given-none}
+use Rattle.ieee.proofs.Refusals.{given-first, given-none}
 use Rattle.ieee.proofs.Answers.{once-unique}
 use Rattle.ieee.proofs.Attributes.{answer-met-unique}
 use Rattle.ieee.proofs.Raised.{nearest-overflow, rule-one}
 use Rattle.ieee.proofs.Unbounded.{unbounded}
 use Rattle.ieee.proofs.Signals.{signalling}
-use Rattle.ieee.proofs.Sqrts.{SqrtRows, sqrt-once, sqrt-met, sqrt-rows}
+use Rattle.ieee.proofs.Sqrts.{sqrt-once, sqrt-met, sqrt-rows}
 use Rattle.ieee.proofs.SqrtFlags.{sqrt-flags-rule, sqrt-flag-rows, sqrt-clean, sqrt-no-overflow, sqrt-no-underflow, sqrt-band}
-use Rattle.ieee.proofs.Fmas.{FmaRows, fma-once, fma-met, fma-rows}
+use Rattle.ieee.proofs.Fmas.{fma-once, fma-met, fma-rows}
 use Rattle.ieee.proofs.FmaFlags.{fma-flags-rule, fma-flag-rows, fma-clean, fma-band}
-use Rattle.ieee.proofs.Scalbns.{ScalbnRows, scalbn-once, scalbn-met, scalbn-rows}
+use Rattle.ieee.proofs.Scalbns.{scalbn-once, scalbn-met, scalbn-rows}
 use Rattle.ieee.proofs.ScalbnFlags.{scalbn-flags-rule, scalbn-flag-rows, scalbn-clean, scalbn-band}
 use Rattle.ieee.proofs.RoundedCalls.{sqrt-by-number, fma-by-number, scalbn-by-number}
-use Rattle.ieee.proofs.Wholes.{Truncated, Floored, WholeRows, FloorRows, trunc-is, trunc-only, trunc-rows, floor-is, floor-only, floor-rows}
+use Rattle.ieee.proofs.Wholes.{trunc-is, trunc-only, trunc-rows, floor-is, floor-only, floor-rows}
 use Rattle.ieee.proofs.WholeFlags.{whole-clean, trunc-flag-rows, floor-flag-rows}
 use Rattle.ieee.proofs.WholeStatuses.{trunc-status-rows, floor-status-rows}
-use Rattle.ieee.proofs.Remainders.{Left, FmodRows, fmod-is, fmod-only, fmod-rows}
-use Rattle.ieee.proofs.Remquos.{NearestLeft, RemquoRows, remquo-is, remquo-only, remquo-rows}
-use Rattle.ieee.proofs.Reductions.{ReducedAs, reduction-is, reduction-only}
-use Rattle.ieee.proofs.ListCalls.{ListedAs, list-of-is, list-only}
+use Rattle.ieee.proofs.Remainders.{fmod-is, fmod-only, fmod-rows}
+use Rattle.ieee.proofs.Remquos.{remquo-is, remquo-only, remquo-rows}
+use Rattle.ieee.proofs.Reductions.{reduction-is, reduction-only}
+use Rattle.ieee.proofs.ListCalls.{list-of-is, list-only}
 use Rattle.ieee.proofs.Cases.{cases}
 use Rattle.ieee.proofs.FlagCases.{flag-cases}
-use Rattle.ieee.proofs.Lazy.{Lazy, lazy}
+use Rattle.ieee.proofs.Lazy.{lazy}
 use Rattle.agreement.specs.Agrees.{Agrees}
 use Rattle.agreement.proofs.Agreement.{agrees}
 use Rattle.reciprocals.specs.Table.{entryOf, Serves}
@@ -66,14 +77,6 @@ use Rattle.reciprocals.proofs.Rule.{between}
 use Rattle.roots.specs.Floor.{FloorRoot}
 use Rattle.table_root.specs.Residual.{Residual, floorBy, exactBy}
 use Rattle.table_root.proofs.Wholes.{alike}
-
--- r meets a rule, and nothing else does
-abbrev pub Only : (ℕ → Type 0) → ℕ → Type 0
-Only P r = P r × ((q : ℕ) → P q → q ≡ r)
-
--- flags meet a rule, and no others do
-abbrev pub OnlyFlags : (Flags → Type 0) → Flags → Type 0
-OnlyFlags P F = P F × ((G : Flags) → P G → G ≡ F)
 
 -- ======== What is spoken of
 -- both widths are fair formats, so that each theorem below holds at both

@@ -1,0 +1,40 @@
+-- What the list call is held to: when it is refused, and by which number, and what the output holds after. Assumes nothing.
+use Prim.Native.Nat.{ℕ, _≤_, _<_}
+use mathlib.Core.Path.{_≡_}
+use mathlib.Core.Logic.{_↔_, _⊎_}
+use mathlib.Core.List.{List}
+use lib.ListN.{length, getD}
+use Rattle.ieee.specs.Format.{Format}
+use Rattle.ieee.specs.Refusal.{numberOf, valueOf}
+use Rattle.ieee.specs.Lists.{operation, Listed}
+
+-- ---- the operations
+abbrev pub Known : ℕ → Type 0
+Known op = (op ≡ 1) ⊎ (op ≡ 2) ⊎ (op ≡ 3)
+
+-- ---- the refusals
+-- a list is too long
+abbrev pub Long : ℕ → List ℕ → List ℕ → Type 0
+Long n xs ys = (n < length xs) ⊎ (n < length ys)
+
+abbrev pub Short : ℕ → List ℕ → List ℕ → Type 0
+Short n xs ys = (length xs ≤ n) × (length ys ≤ n)
+
+abbrev pub SameLength : List ℕ → List ℕ → Type 0
+SameLength xs ys = length xs ≡ length ys
+
+-- when each number k is given
+pub record ListRefusals (n op : ℕ) (xs ys : List ℕ) (k : ℕ) : Type 0 where
+  pub one : (k ≡ 1) ↔ (Known op → ⊥)
+  pub two : (k ≡ 2) ↔ (Known op × Long n xs ys)
+  pub three : (k ≡ 3) ↔ (Known op × (Short n xs ys × (SameLength xs ys → ⊥)))
+  pub none : (k ≡ 0) ↔ (Known op × (Short n xs ys × SameLength xs ys))
+  pub only : (k ≡ 0) ⊎ (k ≡ 1) ⊎ (k ≡ 2) ⊎ (k ≡ 3)
+
+-- ---- the whole result
+pub record ListedAs (f : Format) (n op : ℕ) (xs ys : List ℕ) (l : Listed) : Type 0 where
+  pub refusals : ListRefusals n op xs ys (numberOf (l .answer))
+  pub no-value : valueOf (l .answer) ≡ 0
+  pub untouched : (numberOf (l .answer) ≡ 0 → ⊥) → l .output ≡ ys
+  pub filled : numberOf (l .answer) ≡ 0 → length (l .output) ≡ length xs
+  pub places : numberOf (l .answer) ≡ 0 → (i : ℕ) → i < length xs → getD (l .output) i 0 ≡ operation f op (getD xs i 0)
