@@ -142,7 +142,7 @@ like-sign f a x y z e = ap (λ b. signed f (cond b (zeroSum a) (productSign f x 
 unlike-sign : (f : Format) (a : Attribute) (x y z : ℕ) {s : Bool} → against f x y z ≡ true → zeroSum a ≡ s → signed f (zeroSign f a x y z) 0 ≡ signed f s 0
 unlike-sign f a x y z e h = λ i. signed f (cond (e i) (h i) (productSign f x y)) 0
 
-pub fma-rows : (f : Format) (a : Attribute) (x y z : ℕ) → FmaRows f a x y z
+pub fma-rows : (f : Format) (a : Attribute) (x y z : ℕ) → FmaRows f a x y z (fmaIn f a x y z)
 unfolding plusBy
 fma-rows f a x y z =
     let infinities : Bool → ℕ = λ b. cond b (canonical f) (signed f (productSign f x y) (inf f)) in

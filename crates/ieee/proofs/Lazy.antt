@@ -12,11 +12,45 @@ use Rattle.ieee.specs.Fmod.{fmodOf}
 use Rattle.ieee.specs.Remquo.{remquoOf, quotientOf}
 use Rattle.ieee.specs.Reduction.{reduceOf}
 use Rattle.ieee.specs.Lists.{listOf}
-use Rattle.ieee.specs.Lazy.{Lazy}
+use Rattle.ieee.specs.Lazy.{Lazy64, Lazy32}
 
-pub lazy : Lazy
+pub lazy64 : Lazy64
 unfolding sqrtOf fmaOf fmodOf remquoOf quotientOf scalbnOf floorOf truncOf listOf reduceOf sqrtFlags fmaFlags scalbnFlags floorFlags truncFlags floorStatus truncStatus
-lazy =
+lazy64 =
+    record {
+      sqrt-nan = λ e. omega (arith, e);
+      fma-nan = λ e. omega (arith, e);
+      fmod-nan = λ e. omega (arith, e);
+      remquo-nan = λ e. omega (arith, e);
+      scalbn-nan = λ e. omega (arith, e);
+      floor-nan = λ e. omega (arith, e);
+      trunc-nan = λ e. omega (arith, e);
+      floor-nan-kept = λ e. omega (arith, e);
+      trunc-nan-kept = λ e. omega (arith, e);
+      quotient-zero = λ e. let z = ap natAbs e in omega (arith, z);
+      list-refused = λ n. n refl;
+      reduction-refused = λ n. n refl;
+      list-untouched = λ e. let z = ap (λ l. getD l 0 0) e in omega (arith, z);
+      list-first-alone = λ r e. let z = ap (λ l. getD l 1 0) e in omega (arith, z);
+      floor-always-ok = λ e. omega (arith, e);
+      trunc-always-ok = λ e. omega (arith, e);
+      floor-never-ok = λ e. omega (arith, e);
+      trunc-never-ok = λ e. omega (arith, e);
+      sqrt-no-flag = λ e. let z = ap wordOf e in omega (arith, z);
+      fma-no-flag = λ e. let z = ap wordOf e in omega (arith, z);
+      scalbn-no-flag = λ e. let z = ap wordOf e in omega (arith, z);
+      floor-no-flag = λ e. let z = ap wordOf e in omega (arith, z);
+      trunc-no-flag = λ e. let z = ap wordOf e in omega (arith, z);
+      sqrt-always-inexact = λ e. let z = ap wordOf e in omega (arith, z);
+      fma-always-inexact = λ e. let z = ap wordOf e in omega (arith, z);
+      scalbn-always-inexact = λ e. let z = ap wordOf e in omega (arith, z);
+      floor-always-inexact = λ e. let z = ap wordOf e in omega (arith, z);
+      trunc-always-inexact = λ e. let z = ap wordOf e in omega (arith, z);
+    }
+
+pub lazy32 : Lazy32
+unfolding sqrtOf fmaOf fmodOf remquoOf quotientOf scalbnOf floorOf truncOf listOf reduceOf sqrtFlags fmaFlags scalbnFlags floorFlags truncFlags floorStatus truncStatus
+lazy32 =
     record {
       sqrt-nan = λ e. omega (arith, e);
       fma-nan = λ e. omega (arith, e);

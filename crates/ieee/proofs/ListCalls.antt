@@ -101,8 +101,26 @@ map-places g (x ∷ xs) (suc i) l = map-places g xs i (omega arith)
 module _ (f : Format) (n op : ℕ) (xs ys : List ℕ) where
   listed-by : (k : ℕ) → ListRefusals n op xs ys k → ListedAs f n op xs ys (listBy f op xs ys k)
   unfolding listBy
-  listed-by zero r = record { refusals = r; no-value = refl; untouched = λ z. absurd (z refl); filled = λ z. length-map xs (operation f op); places = λ z. map-places (operation f op) xs }
-  listed-by (suc k) r = record { refusals = r; no-value = refl; untouched = λ z. refl; filled = λ z. absurd (omega arith); places = λ z. absurd (omega arith) }
+  listed-by zero r =
+      record {
+        refusals = r;
+        no-value = refl;
+        untouched = λ z. absurd (z refl);
+        filled = λ z. length-map xs (operation f op);
+        roots = λ z e i l. map-places (operation f op) xs i l ∙ ap (λ k. operation f k (getD xs i 0)) e ∙ operation-sqrt f (getD xs i 0);
+        floors = λ z e i l. map-places (operation f op) xs i l ∙ ap (λ k. operation f k (getD xs i 0)) e ∙ operation-floor f (getD xs i 0);
+        truncs = λ z e i l. map-places (operation f op) xs i l ∙ ap (λ k. operation f k (getD xs i 0)) e ∙ operation-trunc f (getD xs i 0);
+      }
+  listed-by (suc k) r =
+      record {
+        refusals = r;
+        no-value = refl;
+        untouched = λ z. refl;
+        filled = λ z. absurd (omega arith);
+        roots = λ z. absurd (omega arith);
+        floors = λ z. absurd (omega arith);
+        truncs = λ z. absurd (omega arith);
+      }
 
   pub list-is : ListedAs f n op xs ys (listIn f n op xs ys)
   unfolding listIn
@@ -117,10 +135,16 @@ module _ (f : Format) (n op : ℕ) (xs ys : List ℕ) where
       left : (numberOf (l .answer) ≡ 0 → ⊥) → l .output ≡ m .output
       left z = p .untouched z ∙ sym (q .untouched (omega (arith, same)))
 
+      -- at each place, by the operation
+      at : numberOf (l .answer) ≡ 0 → numberOf (m .answer) ≡ 0 → (i : ℕ) → i < length xs → Known op → getD (l .output) i 0 ≡ getD (m .output) i 0
+      at z y i h (inl e) = p .roots z e i h ∙ sym (q .roots y e i h)
+      at z y i h (inr (inl e)) = p .floors z e i h ∙ sym (q .floors y e i h)
+      at z y i h (inr (inr e)) = p .truncs z e i h ∙ sym (q .truncs y e i h)
+
       written : numberOf (l .answer) ≡ 0 → l .output ≡ m .output
       written z =
           let y : numberOf (m .answer) ≡ 0 = omega (arith, same) in
-          ext-getD 0 (l .output) (m .output) (p .filled z ∙ sym (q .filled y)) (λ i h. p .places z i (omega (arith, p .filled z)) ∙ sym (q .places y i (omega (arith, p .filled z))))
+          ext-getD 0 (l .output) (m .output) (p .filled z ∙ sym (q .filled y)) (λ i h. at z y i (omega (arith, p .filled z)) (p .refusals .none .0 z .0))
 
   -- ---- the cases, as results
   list-by : {k : ℕ} → given (listRefusals n op xs ys) ≡ k → listIn f n op xs ys ≡ listBy f op xs ys k

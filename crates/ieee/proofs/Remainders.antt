@@ -151,7 +151,7 @@ divide-by-zero none same r nan = refl
 divide-by-zero none same r infinite = refl
 divide-by-zero none same r (finite u) = refl
 
-pub fmod-rows : (f : Format) → FmodRows f
+pub fmod-rows : (f : Format) → FmodRows f (fmodOf f)
 unfolding fmodOf divide
 fmod-rows f =
     record {

@@ -154,7 +154,7 @@ below-left f x y u v p e k l =
       quotient = sym (signed-zero (unlike (minus f x) (minus f y)));
     }
 
-remquo-below : (f : Format) (x y u v : ℕ) → Pattern f x → kind f x ≡ finite u → kind f y ≡ finite (suc v) → 2 * u ≤ suc v → AnswerIs f x y x (pos 0)
+remquo-below : (f : Format) (x y u v : ℕ) → Pattern f x → kind f x ≡ finite u → kind f y ≡ finite (suc v) → 2 * u ≤ suc v → AnswerIs (remquoOf f) (quotientOf f) x y x (pos 0)
 remquo-below f x y u v p e k l =
     remquo-only f x y (remquoOf f x y) x (quotientOf f x y) (pos 0) (omega (arith, finite-is f y (suc v) k .counts)) (remquo-is f x y u v e k) (below-left f x y u v p e k l)
 
@@ -165,7 +165,7 @@ zero-quotient-is f x y u v n e k a z =
     let w = nearest-whole-unique u (suc v) (whole even u (suc v)) n (omega arith) (whole-even-nearest u (suc v) (omega arith)) a in
     quotient-finite f x y u v e k ∙ ap (λ m. withSign s (m % 2 ^ 31)) w ∙ ap (withSign s) z ∙ signed-zero s
 
-pub remquo-rows : (f : Format) → RemquoRows f
+pub remquo-rows : (f : Format) → RemquoRows f (remquoOf f) (quotientOf f)
 unfolding remquoOf quotientOf divide
 remquo-rows f =
     record {

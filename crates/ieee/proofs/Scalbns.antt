@@ -118,6 +118,6 @@ module _ (f : Format) (g : Fair f) where
           ap (λ c. answer f a (minus f x) (dyadic c 0)) (ap (withSign (minus f x)) e ∙ signed-zero (minus f x)) ∙ answer-zero f a (minus f x) 0
       nothing (negsuc n) = ap (λ c. answer f a (minus f x) (dyadic c (suc n))) (signed-zero (minus f x)) ∙ answer-zero f a (minus f x) (suc n)
 
-pub scalbn-rows : (f : Format) → Fair f → (a : Attribute) (x : ℕ) (n : ℤ) → ScalbnRows f a x n
+pub scalbn-rows : (f : Format) → Fair f → (a : Attribute) (x : ℕ) (n : ℤ) → ScalbnRows f x n (scalbnIn f a x n)
 unfolding scalbnIn scalbnBy
 scalbn-rows f g a x n = record { of-nan = λ h. ap (scalbnBy f a x n) h; of-infinity = λ h. ap (scalbnBy f a x n) h; of-zero = λ p h. scalbn-zero f g a x n p h }

@@ -63,7 +63,7 @@ module _ (f : Format) where
       go : (s : Bool) → minus f x ≡ s → sqrtStatus f x ≡ OK
       go s e = status-by x e h
 
-pub sqrt-rows : (f : Format) (a : Attribute) → SqrtRows f a
+pub sqrt-rows : (f : Format) (a : Attribute) → SqrtRows f (sqrtIn f a) (sqrtStatus f)
 unfolding sqrtBy sqrtStatusBy
 sqrt-rows f a =
     record {

@@ -152,7 +152,7 @@ floor-below-zero f g x u h p l s =
     let o = times (2 ^ low f) (longer-one u (2 ^ low f) p l) ∙ one-mul (2 ^ low f) in
     v ∙ (λ i. withSign (s i) (whole (wayOf toward-negative (s i)) (e i) (2 ^ low f) * 2 ^ low f)) ∙ ap (λ n. negℤ (pos n)) o
 
-pub floor-rows : (f : Format) → Fair f → FloorRows f
+pub floor-rows : (f : Format) → Fair f → FloorRows f (floorOf f)
 floor-rows f g = record { rows = floor-whole-rows f; above-zero = floor-above-zero f; below-zero = floor-below-zero f g }
 
 -- ---- what stays under one attribute stays under every other

@@ -6,7 +6,7 @@ use lib.IntN.{pos, _+ℤ_, _*ℤ_}
 use Rattle.ieee.specs.Format.{Format, low, inf, canonical}
 use Rattle.ieee.specs.Pattern.{Pattern, signed, value, nan, infinite, finite, kind}
 use Rattle.ieee.specs.Round.{Attribute, ties-to-even, ties-to-away, toward-zero, toward-positive, toward-negative}
-use Rattle.ieee.specs.Fma.{fmaIn, InfiniteProduct, productSign, against}
+use Rattle.ieee.specs.Fma.{InfiniteProduct, productSign, against}
 
 -- rounding toward negative
 abbrev pub Down : Attribute → Type 0
@@ -16,24 +16,24 @@ Down toward-zero = ⊥
 Down toward-positive = ⊥
 Down toward-negative = Unit {0}
 
--- every other row, under any attribute
-pub record FmaRows (f : Format) (a : Attribute) (x y z : ℕ) : Type 0 where
-  pub nan-first : kind f x ≡ nan → fmaIn f a x y z ≡ canonical f
-  pub nan-second : kind f y ≡ nan → fmaIn f a x y z ≡ canonical f
-  pub nan-third : kind f z ≡ nan → fmaIn f a x y z ≡ canonical f
-  pub zero-by-infinity : kind f x ≡ finite 0 → kind f y ≡ infinite → fmaIn f a x y z ≡ canonical f
-  pub infinity-by-zero : kind f x ≡ infinite → kind f y ≡ finite 0 → fmaIn f a x y z ≡ canonical f
-  pub opposite-infinities : InfiniteProduct f x y → kind f z ≡ infinite → against f x y z ≡ true → fmaIn f a x y z ≡ canonical f
-  pub like-infinities : InfiniteProduct f x y → kind f z ≡ infinite → against f x y z ≡ false → fmaIn f a x y z ≡ signed f (productSign f x y) (inf f)
-  pub infinite-product : (w : ℕ) → InfiniteProduct f x y → kind f z ≡ finite w → fmaIn f a x y z ≡ signed f (productSign f x y) (inf f)
-  pub infinite-third : (u v : ℕ) → Pattern f z → kind f x ≡ finite u → kind f y ≡ finite v → kind f z ≡ infinite → fmaIn f a x y z ≡ z
+-- the answer r to x, y and z under an attribute
+pub record FmaRows (f : Format) (a : Attribute) (x y z r : ℕ) : Type 0 where
+  pub nan-first : kind f x ≡ nan → r ≡ canonical f
+  pub nan-second : kind f y ≡ nan → r ≡ canonical f
+  pub nan-third : kind f z ≡ nan → r ≡ canonical f
+  pub zero-by-infinity : kind f x ≡ finite 0 → kind f y ≡ infinite → r ≡ canonical f
+  pub infinity-by-zero : kind f x ≡ infinite → kind f y ≡ finite 0 → r ≡ canonical f
+  pub opposite-infinities : InfiniteProduct f x y → kind f z ≡ infinite → against f x y z ≡ true → r ≡ canonical f
+  pub like-infinities : InfiniteProduct f x y → kind f z ≡ infinite → against f x y z ≡ false → r ≡ signed f (productSign f x y) (inf f)
+  pub infinite-product : (w : ℕ) → InfiniteProduct f x y → kind f z ≡ finite w → r ≡ signed f (productSign f x y) (inf f)
+  pub infinite-third : (u v : ℕ) → Pattern f z → kind f x ≡ finite u → kind f y ≡ finite v → kind f z ≡ infinite → r ≡ z
   -- a zero product leaves z; with a zero z, like signs keep theirs, and unlike signs give +0, or -0 when rounding down
-  pub zero-product : (u v w : ℕ) → Pattern f z → kind f x ≡ finite u → kind f y ≡ finite v → u * v ≡ 0 → kind f z ≡ finite (suc w) → fmaIn f a x y z ≡ z
-  pub like-zeros : (u v : ℕ) → kind f x ≡ finite u → kind f y ≡ finite v → u * v ≡ 0 → kind f z ≡ finite 0 → against f x y z ≡ false → fmaIn f a x y z ≡ signed f (productSign f x y) 0
-  pub unlike-zeros : (u v : ℕ) → kind f x ≡ finite u → kind f y ≡ finite v → u * v ≡ 0 → kind f z ≡ finite 0 → against f x y z ≡ true → (Down a → ⊥) → fmaIn f a x y z ≡ 0
-  pub unlike-zeros-down : (u v : ℕ) → kind f x ≡ finite u → kind f y ≡ finite v → u * v ≡ 0 → kind f z ≡ finite 0 → against f x y z ≡ true → Down a → fmaIn f a x y z ≡ signed f true 0
+  pub zero-product : (u v w : ℕ) → Pattern f z → kind f x ≡ finite u → kind f y ≡ finite v → u * v ≡ 0 → kind f z ≡ finite (suc w) → r ≡ z
+  pub like-zeros : (u v : ℕ) → kind f x ≡ finite u → kind f y ≡ finite v → u * v ≡ 0 → kind f z ≡ finite 0 → against f x y z ≡ false → r ≡ signed f (productSign f x y) 0
+  pub unlike-zeros : (u v : ℕ) → kind f x ≡ finite u → kind f y ≡ finite v → u * v ≡ 0 → kind f z ≡ finite 0 → against f x y z ≡ true → (Down a → ⊥) → r ≡ 0
+  pub unlike-zeros-down : (u v : ℕ) → kind f x ≡ finite u → kind f y ≡ finite v → u * v ≡ 0 → kind f z ≡ finite 0 → against f x y z ≡ true → Down a → r ≡ signed f true 0
   -- and so does a zero sum of terms that are not zero
   pub zero-sum : (u v w : ℕ) → kind f x ≡ finite u → kind f y ≡ finite v → kind f z ≡ finite w → 0 < u * v
-      → value f x *ℤ value f y +ℤ value f z *ℤ pos (2 ^ low f) ≡ pos 0 → (Down a → ⊥) → fmaIn f a x y z ≡ 0
+      → value f x *ℤ value f y +ℤ value f z *ℤ pos (2 ^ low f) ≡ pos 0 → (Down a → ⊥) → r ≡ 0
   pub zero-sum-down : (u v w : ℕ) → kind f x ≡ finite u → kind f y ≡ finite v → kind f z ≡ finite w → 0 < u * v
-      → value f x *ℤ value f y +ℤ value f z *ℤ pos (2 ^ low f) ≡ pos 0 → Down a → fmaIn f a x y z ≡ signed f true 0
+      → value f x *ℤ value f y +ℤ value f z *ℤ pos (2 ^ low f) ≡ pos 0 → Down a → r ≡ signed f true 0

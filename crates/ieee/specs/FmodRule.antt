@@ -3,7 +3,6 @@ use Prim.Native.Nat.{ℕ, suc, _+_, _*_, _<_}
 use mathlib.Core.Path.{_≡_}
 use Rattle.ieee.specs.Format.{Format, inf, canonical, units}
 use Rattle.ieee.specs.Pattern.{Pattern, minus, magnitude, nan, infinite, finite, kind}
-use Rattle.ieee.specs.Fmod.{fmodOf}
 
 -- ---- fmod
 -- r is what is left of x: |x| = n |y| + |r| with |r| < |y|, the sign of x, nothing rounded
@@ -15,13 +14,13 @@ pub record Left (f : Format) (x y r : ℕ) : Type 0 where
   pub small : units f (magnitude f r) < units f (magnitude f y)
   pub sign : minus f r ≡ minus f x
 
--- ---- the rows of fmod: NaNs, infinities and zeros
-pub record FmodRows (f : Format) : Type 0 where
-  pub nan-x : (x y : ℕ) → kind f x ≡ nan → fmodOf f x y ≡ canonical f
-  pub infinite-x : (x y : ℕ) → kind f x ≡ infinite → fmodOf f x y ≡ canonical f
-  pub nan-y : (x y : ℕ) → kind f y ≡ nan → fmodOf f x y ≡ canonical f
-  pub zero-y : (x y : ℕ) → kind f y ≡ finite 0 → fmodOf f x y ≡ canonical f
-  pub infinite-y : (x y u : ℕ) → kind f x ≡ finite u → kind f y ≡ infinite → fmodOf f x y ≡ x
-  pub below-y : (x y u v : ℕ) → Pattern f x → kind f x ≡ finite u → kind f y ≡ finite v → u < v → fmodOf f x y ≡ x
-  pub zero-x : (x y v : ℕ) → Pattern f x → kind f x ≡ finite 0 → kind f y ≡ finite (suc v) → fmodOf f x y ≡ x
-  pub zero-left : (x y u v : ℕ) → kind f x ≡ finite u → kind f y ≡ finite (suc v) → magnitude f (fmodOf f x y) ≡ 0 → minus f (fmodOf f x y) ≡ minus f x
+-- ---- rows: what the operation o makes of NaNs, infinities and zeros
+pub record FmodRows (f : Format) (o : ℕ → ℕ → ℕ) : Type 0 where
+  pub nan-x : (x y : ℕ) → kind f x ≡ nan → o x y ≡ canonical f
+  pub infinite-x : (x y : ℕ) → kind f x ≡ infinite → o x y ≡ canonical f
+  pub nan-y : (x y : ℕ) → kind f y ≡ nan → o x y ≡ canonical f
+  pub zero-y : (x y : ℕ) → kind f y ≡ finite 0 → o x y ≡ canonical f
+  pub infinite-y : (x y u : ℕ) → kind f x ≡ finite u → kind f y ≡ infinite → o x y ≡ x
+  pub below-y : (x y u v : ℕ) → Pattern f x → kind f x ≡ finite u → kind f y ≡ finite v → u < v → o x y ≡ x
+  pub zero-x : (x y v : ℕ) → Pattern f x → kind f x ≡ finite 0 → kind f y ≡ finite (suc v) → o x y ≡ x
+  pub zero-left : (x y u v : ℕ) → kind f x ≡ finite u → kind f y ≡ finite (suc v) → magnitude f (o x y) ≡ 0 → minus f (o x y) ≡ minus f x

@@ -6,7 +6,9 @@ use mathlib.Core.List.{List}
 use lib.ListN.{length, getD}
 use Rattle.ieee.specs.Format.{Format}
 use Rattle.ieee.specs.Refusal.{numberOf, valueOf}
-use Rattle.ieee.specs.Lists.{operation, Listed}
+use Rattle.ieee.specs.Sqrt.{sqrtOf}
+use Rattle.ieee.specs.Whole.{floorOf, truncOf}
+use Rattle.ieee.specs.Lists.{Listed}
 
 -- ---- the operations
 abbrev pub Known : ℕ → Type 0
@@ -37,4 +39,7 @@ pub record ListedAs (f : Format) (n op : ℕ) (xs ys : List ℕ) (l : Listed) : 
   pub no-value : valueOf (l .answer) ≡ 0
   pub untouched : (numberOf (l .answer) ≡ 0 → ⊥) → l .output ≡ ys
   pub filled : numberOf (l .answer) ≡ 0 → length (l .output) ≡ length xs
-  pub places : numberOf (l .answer) ≡ 0 → (i : ℕ) → i < length xs → getD (l .output) i 0 ≡ operation f op (getD xs i 0)
+  -- operation 1 is sqrt, 2 floor, and 3 trunc
+  pub roots : numberOf (l .answer) ≡ 0 → op ≡ 1 → (i : ℕ) → i < length xs → getD (l .output) i 0 ≡ sqrtOf f (getD xs i 0)
+  pub floors : numberOf (l .answer) ≡ 0 → op ≡ 2 → (i : ℕ) → i < length xs → getD (l .output) i 0 ≡ floorOf f (getD xs i 0)
+  pub truncs : numberOf (l .answer) ≡ 0 → op ≡ 3 → (i : ℕ) → i < length xs → getD (l .output) i 0 ≡ truncOf f (getD xs i 0)

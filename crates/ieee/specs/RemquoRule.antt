@@ -5,7 +5,6 @@ use lib.IntN.{ℤ, pos, _+ℤ_, _*ℤ_}
 use Rattle.ieee.specs.Format.{Format, inf, canonical, units}
 use Rattle.ieee.specs.Pattern.{Pattern, minus, magnitude, unlike, nan, infinite, finite, kind, withSign, value}
 use Rattle.ieee.specs.Rule.{distance}
-use Rattle.ieee.specs.Remquo.{remquoOf, quotientOf}
 
 -- n is nearest to u / d, and even where another is as near
 pub record NearestTo (u d n : ℕ) : Type 0 where
@@ -24,17 +23,17 @@ pub record NearestLeft (f : Format) (x y r : ℕ) (q : ℤ) : Type 0 where
   pub zero-sign : magnitude f r ≡ 0 → minus f r ≡ minus f x
   pub quotient : q ≡ withSign (unlike (minus f x) (minus f y)) (n % 2 ^ 31)
 
--- ---- the rows of remquo: NaNs, infinities and zeros
-abbrev pub AnswerIs : Format → ℕ → ℕ → ℕ → ℤ → Type 0
-AnswerIs f x y r q = (remquoOf f x y ≡ r) × (quotientOf f x y ≡ q)
+-- ---- rows: what the operation o with its quotient q makes of NaNs, infinities and zeros
+abbrev pub AnswerIs : (ℕ → ℕ → ℕ) → (ℕ → ℕ → ℤ) → ℕ → ℕ → ℕ → ℤ → Type 0
+AnswerIs o q x y r n = (o x y ≡ r) × (q x y ≡ n)
 
-pub record RemquoRows (f : Format) : Type 0 where
-  pub nan-x : (x y : ℕ) → kind f x ≡ nan → AnswerIs f x y (canonical f) (pos 0)
-  pub infinite-x : (x y : ℕ) → kind f x ≡ infinite → AnswerIs f x y (canonical f) (pos 0)
-  pub nan-y : (x y : ℕ) → kind f y ≡ nan → AnswerIs f x y (canonical f) (pos 0)
-  pub zero-y : (x y : ℕ) → kind f y ≡ finite 0 → AnswerIs f x y (canonical f) (pos 0)
-  pub infinite-y : (x y u : ℕ) → kind f x ≡ finite u → kind f y ≡ infinite → AnswerIs f x y x (pos 0)
-  pub below-half-y : (x y u v : ℕ) → Pattern f x → kind f x ≡ finite u → kind f y ≡ finite (suc v) → 2 * u ≤ suc v → AnswerIs f x y x (pos 0)
-  pub zero-x : (x y v : ℕ) → Pattern f x → kind f x ≡ finite 0 → kind f y ≡ finite (suc v) → AnswerIs f x y x (pos 0)
-  pub zero-left : (x y u v : ℕ) → kind f x ≡ finite u → kind f y ≡ finite (suc v) → magnitude f (remquoOf f x y) ≡ 0 → minus f (remquoOf f x y) ≡ minus f x
-  pub zero-quotient : (x y u v n : ℕ) → kind f x ≡ finite u → kind f y ≡ finite (suc v) → NearestTo u (suc v) n → n % 2 ^ 31 ≡ 0 → quotientOf f x y ≡ pos 0
+pub record RemquoRows (f : Format) (o : ℕ → ℕ → ℕ) (q : ℕ → ℕ → ℤ) : Type 0 where
+  pub nan-x : (x y : ℕ) → kind f x ≡ nan → AnswerIs o q x y (canonical f) (pos 0)
+  pub infinite-x : (x y : ℕ) → kind f x ≡ infinite → AnswerIs o q x y (canonical f) (pos 0)
+  pub nan-y : (x y : ℕ) → kind f y ≡ nan → AnswerIs o q x y (canonical f) (pos 0)
+  pub zero-y : (x y : ℕ) → kind f y ≡ finite 0 → AnswerIs o q x y (canonical f) (pos 0)
+  pub infinite-y : (x y u : ℕ) → kind f x ≡ finite u → kind f y ≡ infinite → AnswerIs o q x y x (pos 0)
+  pub below-half-y : (x y u v : ℕ) → Pattern f x → kind f x ≡ finite u → kind f y ≡ finite (suc v) → 2 * u ≤ suc v → AnswerIs o q x y x (pos 0)
+  pub zero-x : (x y v : ℕ) → Pattern f x → kind f x ≡ finite 0 → kind f y ≡ finite (suc v) → AnswerIs o q x y x (pos 0)
+  pub zero-left : (x y u v : ℕ) → kind f x ≡ finite u → kind f y ≡ finite (suc v) → magnitude f (o x y) ≡ 0 → minus f (o x y) ≡ minus f x
+  pub zero-quotient : (x y u v n : ℕ) → kind f x ≡ finite u → kind f y ≡ finite (suc v) → NearestTo u (suc v) n → n % 2 ^ 31 ≡ 0 → q x y ≡ pos 0

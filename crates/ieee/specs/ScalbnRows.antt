@@ -4,11 +4,9 @@ use mathlib.Core.Path.{_≡_}
 use lib.IntN.{ℤ}
 use Rattle.ieee.specs.Format.{Format, canonical}
 use Rattle.ieee.specs.Pattern.{Pattern, nan, infinite, finite, kind}
-use Rattle.ieee.specs.Round.{Attribute}
-use Rattle.ieee.specs.Scalbn.{scalbnIn}
 
--- every other row, under any attribute
-pub record ScalbnRows (f : Format) (a : Attribute) (x : ℕ) (n : ℤ) : Type 0 where
-  pub of-nan : kind f x ≡ nan → scalbnIn f a x n ≡ canonical f
-  pub of-infinity : kind f x ≡ infinite → scalbnIn f a x n ≡ x
-  pub of-zero : Pattern f x → kind f x ≡ finite 0 → scalbnIn f a x n ≡ x
+-- the answer r to x and n, under any attribute
+pub record ScalbnRows (f : Format) (x : ℕ) (n : ℤ) (r : ℕ) : Type 0 where
+  pub of-nan : kind f x ≡ nan → r ≡ canonical f
+  pub of-infinity : kind f x ≡ infinite → r ≡ x
+  pub of-zero : Pattern f x → kind f x ≡ finite 0 → r ≡ x

@@ -34,7 +34,7 @@ module _ (f : Format) (x y z : ℕ) where
   unfolding fmaOf
   of-in = refl
 
-  rows : FmaRows f ties-to-even x y z
+  rows : FmaRows f ties-to-even x y z (fmaIn f ties-to-even x y z)
   rows = fma-rows f ties-to-even x y z
 
   -- ---- a NaN anywhere
