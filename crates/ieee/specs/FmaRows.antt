@@ -16,7 +16,7 @@ Down toward-zero = ⊥
 Down toward-positive = ⊥
 Down toward-negative = Unit {0}
 
--- the answer r to x, y and z under an attribute
+-- the answer r to x, y and z under an attribute; all other sums of numbers are held to the rule of rounding
 pub record FmaRows (f : Format) (a : Attribute) (x y z r : ℕ) : Type 0 where
   pub nan-first : kind f x ≡ nan → r ≡ canonical f
   pub nan-second : kind f y ≡ nan → r ≡ canonical f
@@ -32,7 +32,7 @@ pub record FmaRows (f : Format) (a : Attribute) (x y z r : ℕ) : Type 0 where
   pub like-zeros : (u v : ℕ) → kind f x ≡ finite u → kind f y ≡ finite v → u * v ≡ 0 → kind f z ≡ finite 0 → against f x y z ≡ false → r ≡ signed f (productSign f x y) 0
   pub unlike-zeros : (u v : ℕ) → kind f x ≡ finite u → kind f y ≡ finite v → u * v ≡ 0 → kind f z ≡ finite 0 → against f x y z ≡ true → (Down a → ⊥) → r ≡ 0
   pub unlike-zeros-down : (u v : ℕ) → kind f x ≡ finite u → kind f y ≡ finite v → u * v ≡ 0 → kind f z ≡ finite 0 → against f x y z ≡ true → Down a → r ≡ signed f true 0
-  -- and so does a zero sum of terms that are not zero
+  -- and a zero sum of terms that are not zero gives the same
   pub zero-sum : (u v w : ℕ) → kind f x ≡ finite u → kind f y ≡ finite v → kind f z ≡ finite w → 0 < u * v
       → value f x *ℤ value f y +ℤ value f z *ℤ pos (2 ^ low f) ≡ pos 0 → (Down a → ⊥) → r ≡ 0
   pub zero-sum-down : (u v w : ℕ) → kind f x ≡ finite u → kind f y ≡ finite v → kind f z ≡ finite w → 0 < u * v

@@ -4,7 +4,7 @@ use mathlib.Core.Path.{_≡_}
 use Rattle.ieee.specs.Format.{Format, inf, canonical, units}
 use Rattle.ieee.specs.Pattern.{Pattern, minus, magnitude, nan, infinite, finite, kind}
 
--- ---- fmod
+-- ---- two numbers
 -- r is what is left of x: |x| = n |y| + |r| with |r| < |y|, the sign of x, nothing rounded
 pub record Left (f : Format) (x y r : ℕ) : Type 0 where
   pub n : ℕ

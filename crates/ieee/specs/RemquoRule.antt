@@ -6,6 +6,7 @@ use Rattle.ieee.specs.Format.{Format, inf, canonical, units}
 use Rattle.ieee.specs.Pattern.{Pattern, minus, magnitude, unlike, nan, infinite, finite, kind, withSign, value}
 use Rattle.ieee.specs.Rule.{distance}
 
+-- ---- two numbers
 -- n is nearest to u / d, and even where another is as near
 pub record NearestTo (u d n : ℕ) : Type 0 where
   pub half : 2 * distance u (n * d) ≤ d

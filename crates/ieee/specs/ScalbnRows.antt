@@ -5,7 +5,7 @@ use lib.IntN.{ℤ}
 use Rattle.ieee.specs.Format.{Format, canonical}
 use Rattle.ieee.specs.Pattern.{Pattern, nan, infinite, finite, kind}
 
--- the answer r to x and n, under any attribute
+-- the answer r to x and n, under any attribute; all other numbers are held to the rule of rounding
 pub record ScalbnRows (f : Format) (x : ℕ) (n : ℤ) (r : ℕ) : Type 0 where
   pub of-nan : kind f x ≡ nan → r ≡ canonical f
   pub of-infinity : kind f x ≡ infinite → r ≡ x

@@ -6,7 +6,7 @@ use Rattle.ieee.specs.Format.{Format, canonical}
 use Rattle.ieee.specs.Pattern.{Pattern, minus, nan, infinite, finite, kind}
 use Rattle.ieee.specs.Status.{OK, INVALID}
 
--- the root o with its status s, in every row but that of the numbers above zero, where the status alone is given
+-- the root o with its status s; of a number above zero the status alone, since its root is held to the rule of rounding
 pub record SqrtRows (f : Format) (o s : ℕ → ℕ) : Type 0 where
   pub of-nan : (x : ℕ) → kind f x ≡ nan → (o x ≡ canonical f) × (s x ≡ INVALID)
   pub of-infinity : (x : ℕ) → kind f x ≡ infinite → minus f x ≡ false → (o x ≡ x) × (s x ≡ OK)

@@ -7,6 +7,7 @@ use lib.Signed.{_≤ℤ_, _<ℤ_}
 use Rattle.ieee.specs.Format.{Format, low, inf, canonical, units}
 use Rattle.ieee.specs.Pattern.{Pattern, minus, magnitude, nan, infinite, finite, kind, value}
 
+-- ---- a number
 -- r is x cut to a whole number of ones: |k| ≤ |x| < |k| + 1 with the sign kept, and nothing rounded
 pub record Truncated (f : Format) (x r : ℕ) : Type 0 where
   pub k : ℕ
@@ -33,7 +34,7 @@ pub record WholeRows (f : Format) (o : ℕ → ℕ) : Type 0 where
   pub of-infinity : (x : ℕ) → kind f x ≡ infinite → o x ≡ x
   pub of-zero : (x : ℕ) → Pattern f x → kind f x ≡ finite 0 → o x ≡ x
 
--- ---- floor has two rows more: a value in (0, 1) gives +0, and a value in (-1, 0) gives -1
+-- floor has two rows more: a value in (0, 1) gives +0, and a value in (-1, 0) gives -1
 pub record FloorRows (f : Format) (o : ℕ → ℕ) : Type 0 where
   pub rows : WholeRows f o
   pub above-zero : (x u : ℕ) → kind f x ≡ finite u → u < 2 ^ low f → minus f x ≡ false → o x ≡ 0
