@@ -1,6 +1,6 @@
 -- The whole answer: whatever meets the rows of an operation, and for numbers its rule, is what the definition gives, for every operand. Assumes nothing.
 use Prim.Native.Nat.{ℕ, zero, suc, _<_}
-use mathlib.Core.Path.{_≡_, refl, sym, ap, _∙_}
+use mathlib.Core.Path.{_≡_, refl, sym, _∙_}
 use mathlib.Core.Bool.{Bool, true, false, true≢false}
 use native.Mathlib.Omega.{arith}
 use lib.IntN.{ℤ}
@@ -8,8 +8,6 @@ use Rattle.ieee.specs.Format.{Format, Fair, units}
 use Rattle.ieee.specs.Pattern.{Pattern, minus, magnitude, Kind, nan, infinite, finite, kind}
 use Rattle.ieee.specs.Round.{Attribute}
 use Rattle.ieee.specs.Rule.{RuleIn}
-use Rattle.ieee.specs.Flags.{Flags, onlyInexact, signals}
-use Rattle.ieee.specs.FlagRows.{WholeFlagRows}
 use Rattle.ieee.specs.Sqrt.{sqrtIn, sqrtStatus, exactSqrt}
 use Rattle.ieee.specs.SqrtRows.{SqrtRows}
 use Rattle.ieee.specs.Fma.{fmaIn, exactFma, zeroSign, InfiniteProduct, of-both, of-first, of-second, against}
@@ -26,7 +24,6 @@ use Rattle.ieee.specs.RemquoRule.{NearestLeft, RemquoRows}
 use Rattle.ieee.proofs.Decide.{split, eqb-reads}
 use Rattle.ieee.proofs.Patterns.{finite-is}
 use Rattle.ieee.proofs.Attributes.{answer-met-unique}
-use Rattle.ieee.proofs.Raised.{same-when}
 use Rattle.ieee.proofs.Sqrts.{sqrt-met, sqrt-rows}
 use Rattle.ieee.proofs.Fmas.{fma-met, fma-rows}
 use Rattle.ieee.proofs.Scalbns.{scalbn-met, scalbn-rows}
@@ -35,7 +32,7 @@ use Rattle.ieee.proofs.Remainders.{fmod-is, fmod-only, fmod-rows}
 use Rattle.ieee.proofs.Remquos.{remquo-is, remquo-only, remquo-rows}
 
 -- what both are is one
-same : {A : Type 0} {r q d : A} → r ≡ d → q ≡ d → r ≡ q
+pub same : {A : Type 0} {r q d : A} → r ≡ d → q ≡ d → r ≡ q
 same p e = p ∙ sym e
 
 both : {A B : Type 0} {r q d : A} {s t c : B} → (r ≡ d) × (s ≡ c) → (q ≡ d) × (t ≡ c) → (r ≡ q) × (s ≡ t)
@@ -131,22 +128,6 @@ module _ (f : Format) (o s t : ℕ → ℕ) (p : WholeStatusRows f o s) (q : Who
 
   pub whole-status-settled : (x : ℕ) → s x ≡ t x
   whole-status-settled x = status-by x (kind f x) refl
-
--- and their flags
-module _ (f : Format) (o : ℕ → ℕ) (F G : ℕ → Flags) (p : WholeFlagRows f o F) (q : WholeFlagRows f o G) where
-  flags-by : (x : ℕ) (k : Kind) → kind f x ≡ k → F x ≡ G x
-  flags-by x nan h = go (signals f x) refl
-    where
-      go : (b : Bool) → signals f x ≡ b → F x ≡ G x
-      go true e = same (p .of-signalling x h e) (q .of-signalling x h e)
-      go false e = same (p .of-quiet x h e) (q .of-quiet x h e)
-  flags-by x infinite h = same (p .of-infinity x h) (q .of-infinity x h)
-  flags-by x (finite u) h =
-      let e = same-when (F x .inexact) (G x .inexact) (p .changed x u h) (q .changed x u h) in
-      p .of-finite x u h ∙ ap onlyInexact e ∙ sym (q .of-finite x u h)
-
-  pub whole-flags-settled : (x : ℕ) → F x ≡ G x
-  whole-flags-settled x = flags-by x (kind f x) refl
 
 -- ---- fmod
 module _ (f : Format) (o : ℕ → ℕ → ℕ) (rows : FmodRows f o) (rule : (x y u v : ℕ) → kind f x ≡ finite u → kind f y ≡ finite (suc v) → Left f x y (o x y)) where

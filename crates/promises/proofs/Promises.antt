@@ -71,7 +71,8 @@ use Rattle.ieee.proofs.Remainders.{fmod-is, fmod-only, fmod-rows}
 use Rattle.ieee.proofs.Remquos.{remquo-is, remquo-only, remquo-rows}
 use Rattle.ieee.proofs.Reductions.{reduction-is, reduction-only}
 use Rattle.ieee.proofs.ListCalls.{list-of-is, list-only}
-use Rattle.ieee.proofs.Settled.{sqrt-settled, fma-settled, scalbn-settled, floor-settled, trunc-settled, whole-status-settled, whole-flags-settled, fmod-settled, remquo-settled}
+use Rattle.ieee.proofs.Settled.{sqrt-settled, fma-settled, scalbn-settled, floor-settled, trunc-settled, whole-status-settled, fmod-settled, remquo-settled}
+use Rattle.ieee.proofs.FlagsSettled.{sqrt-flags-settled, fma-flags-settled, scalbn-flags-settled, whole-flags-settled}
 use Rattle.ieee.proofs.Cases.{cases}
 use Rattle.ieee.proofs.FlagCases.{flag-cases}
 use Rattle.ieee.proofs.Lazy.{lazy64, lazy32}
@@ -344,15 +345,15 @@ signalling-is-below-the-canonical = signalling
 
 -- code: none, no function takes an attribute or gives flags
 -- NaNs, infinities and zeros, row by row: when invalid is raised, and that nothing else is
-pub sqrt-flags-by-rows : (f : Format) → Fair f → (a : Attribute) → SqrtFlagRows f a
+pub sqrt-flags-by-rows : (f : Format) → Fair f → (a : Attribute) → SqrtFlagRows f (sqrtFlagsIn f a)
 sqrt-flags-by-rows = sqrt-flag-rows
 
 -- code: none, no function takes an attribute or gives flags
-pub fma-flags-by-rows : (f : Format) (a : Attribute) (x y z : ℕ) → FmaFlagRows f a x y z
+pub fma-flags-by-rows : (f : Format) (a : Attribute) (x y z : ℕ) → FmaFlagRows f x y z (fmaFlagsIn f a x y z)
 fma-flags-by-rows = fma-flag-rows
 
 -- code: none, no function takes an attribute or gives flags
-pub scalbn-flags-by-rows : (f : Format) (a : Attribute) (x : ℕ) (n : ℤ) → ScalbnFlagRows f a x n
+pub scalbn-flags-by-rows : (f : Format) (a : Attribute) (x : ℕ) (n : ℤ) → ScalbnFlagRows f x (scalbnFlagsIn f a x n)
 scalbn-flags-by-rows = scalbn-flag-rows
 
 -- code: none, no function takes an attribute or gives flags
@@ -365,7 +366,36 @@ pub trunc-flags-by-rows : (f : Format) → Fair f → WholeFlagRows f (truncOf f
 trunc-flags-by-rows = trunc-flag-rows
 
 -- code: none, no function takes an attribute or gives flags
--- which one function of patterns meets
+-- nothing is left open here either: whatever meets the rows, and for numbers the rules, is the answer with its flags
+pub sqrt-settled-by-attribute : (f : Format) → Fair f → (a : Attribute) (o s : ℕ → ℕ) (F : ℕ → Flags) → SqrtRows f o s → SqrtFlagRows f F
+    → ((x u : ℕ) → kind f x ≡ finite u → (minus f x ≡ true → u ≡ 0) → RuleIn f a (minus f x) (exactSqrt f x) (o x) × FlagsRule f a (minus f x) (exactSqrt f x) (sqrtIn f a x) (F x))
+    → (x : ℕ) → Pattern f x → (o x ≡ sqrtIn f a x) × (F x ≡ sqrtFlagsIn f a x)
+sqrt-settled-by-attribute f g a o s F rows flags rules x p = (
+  sqrt-settled f g a o s rows (λ y u h z. rules y u h z .0) x p .0,
+  sqrt-flags-settled f g a F flags (λ y u h z. rules y u h z .1) x,
+)
+
+-- code: none, no function takes an attribute or gives flags
+pub fma-settled-by-attribute : (f : Format) → Fair f → (a : Attribute) (x y z r : ℕ) (F : Flags) → FmaRows f a x y z r → FmaFlagRows f x y z F
+    → ((u v w : ℕ) → kind f x ≡ finite u → kind f y ≡ finite v → kind f z ≡ finite w
+    → RuleIn f a (zeroSign f a x y z) (exactFma f x y z) r × FlagsRule f a (zeroSign f a x y z) (exactFma f x y z) (fmaIn f a x y z) F)
+    → Pattern f z → (r ≡ fmaIn f a x y z) × (F ≡ fmaFlagsIn f a x y z)
+fma-settled-by-attribute f g a x y z r F rows flags rules p = (
+  fma-settled f g a x y z r rows (λ u v w h k l. rules u v w h k l .0) p,
+  fma-flags-settled f g a x y z F flags (λ u v w h k l. rules u v w h k l .1),
+)
+
+-- code: none, no function takes an attribute or gives flags
+pub scalbn-settled-by-attribute : (f : Format) → Fair f → (a : Attribute) (x : ℕ) (n : ℤ) (r : ℕ) (F : Flags) → ScalbnRows f x n r → ScalbnFlagRows f x F
+    → ((u : ℕ) → kind f x ≡ finite u → RuleIn f a (minus f x) (exactScalbn f x n) r × FlagsRule f a (minus f x) (exactScalbn f x n) (scalbnIn f a x n) F)
+    → (r ≡ scalbnIn f a x n) × (F ≡ scalbnFlagsIn f a x n)
+scalbn-settled-by-attribute f g a x n r F rows flags rules = (
+  scalbn-settled f g a x n r rows (λ u h. rules u h .0),
+  scalbn-flags-settled f g a x n F flags (λ u h. rules u h .1),
+)
+
+-- code: none, no function takes an attribute or gives flags
+-- and one function of patterns has the flags of floor, and one those of trunc
 pub whole-flags-are-settled : (f : Format) (o : ℕ → ℕ) (F G : ℕ → Flags) → WholeFlagRows f o F → WholeFlagRows f o G → (x : ℕ) → F x ≡ G x
 whole-flags-are-settled = whole-flags-settled
 
