@@ -45,11 +45,11 @@ use Rattle.ieee.specs.Reduction.{reduceOf}
 use Rattle.ieee.specs.ReductionRule.{ReducedAs}
 use Rattle.ieee.specs.Lists.{listLimit, Listed, listOf}
 use Rattle.ieee.specs.ListRule.{ListedAs}
-use Rattle.ieee.specs.Numbers.{Numbers64, Numbers32, Statuses, FlagNumbers, Limits}
+use Rattle.ieee.specs.Numbers.{Numbers64, Numbers32, Statuses, FlagNumbers, Ends, Limits}
 use Rattle.ieee.specs.Cases.{Cases}
 use Rattle.ieee.specs.FlagCases.{FlagCases}
 use Rattle.ieee.specs.Lazy.{Lazy64, Lazy32}
-use Rattle.ieee.proofs.Formats.{fair64, fair32, numbers64, numbers32, statuses, flag-numbers, limits}
+use Rattle.ieee.proofs.Formats.{fair64, fair32, numbers64, numbers32, statuses, flag-numbers, ends, limits}
 use Rattle.ieee.proofs.Patterns.{finite-is}
 use Rattle.ieee.proofs.Refusals.{given-first, given-none}
 use Rattle.ieee.proofs.Answers.{once-unique}
@@ -283,8 +283,8 @@ pub attributes-go-by-number : (f : Format) (x y z : ℕ) (n : ℤ)
 attributes-go-by-number f x y z n = (sqrt-by-number f x, fma-by-number f x y z, scalbn-by-number f x n)
 
 -- code: none, the numbers
-pub flag-numbers-are-as-given : FlagNumbers
-flag-numbers-are-as-given = flag-numbers
+pub flag-numbers-are-as-given : FlagNumbers × Ends
+flag-numbers-are-as-given = (flag-numbers, ends)
 
 -- code: none, no function takes an attribute or gives flags
 -- for finite operands whose answer is not a NaN: the rule of the attribute, which one pattern meets, and the rule of its flags, which one record of flags meets;
