@@ -11,6 +11,7 @@ use Rattle.ieee.specs.Whole.{floorOf, truncOf}
 use Rattle.ieee.specs.Lists.{Listed}
 
 -- ---- the operations
+-- the call has this operation
 abbrev pub Known : ℕ → Type 0
 Known op = (op ≡ 1) ⊎ (op ≡ 2) ⊎ (op ≡ 3)
 
@@ -19,9 +20,11 @@ Known op = (op ≡ 1) ⊎ (op ≡ 2) ⊎ (op ≡ 3)
 abbrev pub Long : ℕ → List ℕ → List ℕ → Type 0
 Long n xs ys = (n < length xs) ⊎ (n < length ys)
 
+-- neither is too long
 abbrev pub Short : ℕ → List ℕ → List ℕ → Type 0
 Short n xs ys = (length xs ≤ n) × (length ys ≤ n)
 
+-- they have as many places
 abbrev pub SameLength : List ℕ → List ℕ → Type 0
 SameLength xs ys = length xs ≡ length ys
 
@@ -33,7 +36,7 @@ pub record ListRefusals (n op : ℕ) (xs ys : List ℕ) (k : ℕ) : Type 0 where
   pub none : (k ≡ 0) ↔ (Known op × (Short n xs ys × SameLength xs ys))
   pub only : (k ≡ 0) ⊎ (k ≡ 1) ⊎ (k ≡ 2) ⊎ (k ≡ 3)
 
--- ---- the whole result
+-- ---- the whole result: its number, the value 0, and the output, as it was where the call is refused, and else settled place by place
 pub record ListedAs (f : Format) (n op : ℕ) (xs ys : List ℕ) (l : Listed) : Type 0 where
   pub refusals : ListRefusals n op xs ys (numberOf (l .answer))
   pub no-value : valueOf (l .answer) ≡ 0

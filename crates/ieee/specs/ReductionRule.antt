@@ -10,6 +10,7 @@ use Rattle.ieee.specs.Reduction.{shiftLimit, divisorLimit}
 abbrev pub Unfit : ℕ → ℕ → ℕ → Type 0
 Unfit w x y = (divisorLimit w < y) ⊎ (2 * y ≤ x)
 
+-- neither is so
 abbrev pub Fit : ℕ → ℕ → ℕ → Type 0
 Fit w x y = (y ≤ divisorLimit w) × (x < 2 * y)
 
@@ -26,7 +27,7 @@ pub record Reduced (x e y r : ℕ) : Type 0 where
   pub parts : x * 2 ^ e ≡ quotient * y + r
   pub below : r < y
 
--- ---- the whole answer: its number, and its value
+-- ---- the whole answer: its number, and its value, 0 where it is refused
 pub record ReducedAs (w x e y : ℕ) (a : Answer) : Type 0 where
   pub refusals : ReduceRefusals w x e y (numberOf a)
   pub no-value : (numberOf a ≡ 0 → ⊥) → valueOf a ≡ 0

@@ -25,6 +25,7 @@ pub record NearestLeft (f : Format) (x y r : ℕ) (q : ℤ) : Type 0 where
   pub quotient : q ≡ withSign (unlike (minus f x) (minus f y)) (n % 2 ^ 31)
 
 -- ---- rows: what the operation o with its quotient q makes of NaNs, infinities and zeros
+-- the answer to x and y is r, with the quotient n
 abbrev pub AnswerIs : (ℕ → ℕ → ℕ) → (ℕ → ℕ → ℤ) → ℕ → ℕ → ℕ → ℤ → Type 0
 AnswerIs o q x y r n = (o x y ≡ r) × (q x y ≡ n)
 
