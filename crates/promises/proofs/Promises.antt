@@ -6,6 +6,7 @@
 --                       library's face, C functions included, stands in one such line alone; CRATE::NAME is a function inside the library.
 --   code: as THEOREMS   it says more of the definitions that those theorems settle, and so of their functions.
 --   code: none, WHY     it speaks of no function.
+-- The first two may stand in one line, names first.
 use Prim.Native.Nat.{ℕ, suc, _+_, _-_, _*_, _^_, _<_}
 use mathlib.Core.Path.{_≡_}
 use mathlib.Core.Logic.{_↔_}
