@@ -99,7 +99,7 @@ module _ (f : Format) (a : Attribute) (x y z : ℕ) where
       go (of-second {u} p q) =
           by-product (silent f x y z (finite-silent f x (suc u) p) (infinite-silent f y q) n) ((λ i. clashes (p i) (q i)) ∙ ne-eqb (suc u) 0 (λ e. omega arith)) (times-infinite f x y i) r
 
-  pub fma-flag-rows : FmaFlagRows f a x y z
+  pub fma-flag-rows : FmaFlagRows f x y z (fmaFlagsIn f a x y z)
   unfolding plusFlagsBy
   fma-flag-rows =
       record {

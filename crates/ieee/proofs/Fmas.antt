@@ -13,6 +13,7 @@ use Rattle.ieee.specs.Exact.{dyadic}
 use Rattle.ieee.specs.Round.{Attribute, ties-to-even, ties-to-away, toward-zero, toward-positive, toward-negative, answer}
 use Rattle.ieee.specs.Rule.{to-even, Once, RuleIn}
 use Rattle.ieee.specs.Fma.{times, sumOf, zeroSum, plusBy, fmaIn, fmaOf, exactFma, zeroSign, InfiniteProduct, of-both, of-first, of-second, productSign, against}
+use Rattle.ieee.specs.FmaRows.{Down, FmaRows}
 use Rattle.ieee.proofs.Patterns.{value-finite, finite-is, infinity-is, signed-is}
 use Rattle.ieee.proofs.Signs.{signed-times, signed-product, signed-zero}
 use Rattle.ieee.proofs.Exacts.{answer-zero, sign-given, answer-held}
@@ -120,36 +121,6 @@ times-infinite f x y (of-both h l) = λ i. times (h i) (l i)
 times-infinite f x y (of-first h l) = λ i. times (h i) (l i)
 times-infinite f x y (of-second h l) = λ i. times (h i) (l i)
 
--- rounding toward negative
-abbrev pub Down : Attribute → Type 0
-Down ties-to-even = ⊥
-Down ties-to-away = ⊥
-Down toward-zero = ⊥
-Down toward-positive = ⊥
-Down toward-negative = Unit {0}
-
--- every other row, under any attribute
-pub record FmaRows (f : Format) (a : Attribute) (x y z : ℕ) : Type 0 where
-  pub nan-first : kind f x ≡ nan → fmaIn f a x y z ≡ canonical f
-  pub nan-second : kind f y ≡ nan → fmaIn f a x y z ≡ canonical f
-  pub nan-third : kind f z ≡ nan → fmaIn f a x y z ≡ canonical f
-  pub zero-by-infinity : kind f x ≡ finite 0 → kind f y ≡ infinite → fmaIn f a x y z ≡ canonical f
-  pub infinity-by-zero : kind f x ≡ infinite → kind f y ≡ finite 0 → fmaIn f a x y z ≡ canonical f
-  pub opposite-infinities : InfiniteProduct f x y → kind f z ≡ infinite → against f x y z ≡ true → fmaIn f a x y z ≡ canonical f
-  pub like-infinities : InfiniteProduct f x y → kind f z ≡ infinite → against f x y z ≡ false → fmaIn f a x y z ≡ signed f (productSign f x y) (inf f)
-  pub infinite-product : (w : ℕ) → InfiniteProduct f x y → kind f z ≡ finite w → fmaIn f a x y z ≡ signed f (productSign f x y) (inf f)
-  pub infinite-third : (u v : ℕ) → Pattern f z → kind f x ≡ finite u → kind f y ≡ finite v → kind f z ≡ infinite → fmaIn f a x y z ≡ z
-  -- a zero product leaves z; with a zero z, like signs keep theirs, and unlike signs give +0, or -0 when rounding down
-  pub zero-product : (u v w : ℕ) → Pattern f z → kind f x ≡ finite u → kind f y ≡ finite v → u * v ≡ 0 → kind f z ≡ finite (suc w) → fmaIn f a x y z ≡ z
-  pub like-zeros : (u v : ℕ) → kind f x ≡ finite u → kind f y ≡ finite v → u * v ≡ 0 → kind f z ≡ finite 0 → against f x y z ≡ false → fmaIn f a x y z ≡ signed f (productSign f x y) 0
-  pub unlike-zeros : (u v : ℕ) → kind f x ≡ finite u → kind f y ≡ finite v → u * v ≡ 0 → kind f z ≡ finite 0 → against f x y z ≡ true → (Down a → ⊥) → fmaIn f a x y z ≡ 0
-  pub unlike-zeros-down : (u v : ℕ) → kind f x ≡ finite u → kind f y ≡ finite v → u * v ≡ 0 → kind f z ≡ finite 0 → against f x y z ≡ true → Down a → fmaIn f a x y z ≡ signed f true 0
-  -- and so does a zero sum of terms that are not zero
-  pub zero-sum : (u v w : ℕ) → kind f x ≡ finite u → kind f y ≡ finite v → kind f z ≡ finite w → 0 < u * v
-      → value f x *ℤ value f y +ℤ value f z *ℤ pos (2 ^ low f) ≡ pos 0 → (Down a → ⊥) → fmaIn f a x y z ≡ 0
-  pub zero-sum-down : (u v w : ℕ) → kind f x ≡ finite u → kind f y ≡ finite v → kind f z ≡ finite w → 0 < u * v
-      → value f x *ℤ value f y +ℤ value f z *ℤ pos (2 ^ low f) ≡ pos 0 → Down a → fmaIn f a x y z ≡ signed f true 0
-
 not-down : (a : Attribute) → (Down a → ⊥) → zeroSum a ≡ false
 not-down ties-to-even n = refl
 not-down ties-to-away n = refl
@@ -171,7 +142,7 @@ like-sign f a x y z e = ap (λ b. signed f (cond b (zeroSum a) (productSign f x 
 unlike-sign : (f : Format) (a : Attribute) (x y z : ℕ) {s : Bool} → against f x y z ≡ true → zeroSum a ≡ s → signed f (zeroSign f a x y z) 0 ≡ signed f s 0
 unlike-sign f a x y z e h = λ i. signed f (cond (e i) (h i) (productSign f x y)) 0
 
-pub fma-rows : (f : Format) (a : Attribute) (x y z : ℕ) → FmaRows f a x y z
+pub fma-rows : (f : Format) (a : Attribute) (x y z : ℕ) → FmaRows f a x y z (fmaIn f a x y z)
 unfolding plusBy
 fma-rows f a x y z =
     let infinities : Bool → ℕ = λ b. cond b (canonical f) (signed f (productSign f x y) (inf f)) in

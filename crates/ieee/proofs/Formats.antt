@@ -2,7 +2,7 @@
 use mathlib.Core.Path.{refl}
 use lib.Dec.{lit≤, lit<}
 use Rattle.ieee.specs.Format.{Fair, b16, b32, b64, units}
-use Rattle.ieee.specs.Numbers.{Numbers64, Numbers32, Statuses, FlagNumbers, Limits}
+use Rattle.ieee.specs.Numbers.{Numbers64, Numbers32, Statuses, FlagNumbers, Ends, Limits}
 
 pub fair64 : Fair b64
 fair64 = record { frac-pos = lit≤ tt; expo-two = lit≤ tt; frac-fits = lit< tt }
@@ -26,6 +26,9 @@ statuses = record { ok = refl; invalid = refl; inexact = refl }
 
 pub flag-numbers : FlagNumbers
 flag-numbers = record { nothing = refl; invalid = refl; division-by-zero = refl; overflow = refl; underflow = refl; inexact = refl }
+
+pub ends : Ends
+ends = record { largest64 = refl; normal64 = refl; largest32 = refl; normal32 = refl }
 
 pub limits : Limits
 limits = record { places = refl; divisor64 = refl; divisor32 = refl; shift = refl }

@@ -1,81 +1,56 @@
 -- Lazy answers, each at an input where the definitions say otherwise. Assumes nothing.
-use Prim.Native.Nat.{ℕ}
-use mathlib.Core.Path.{_≡_, refl, ap}
-use mathlib.Core.Bool.{true}
-use mathlib.Core.List.{[], _∷_}
+use mathlib.Core.Path.{refl, ap}
 use native.Mathlib.Omega.{arith}
-use lib.IntN.{pos, negsuc, natAbs}
+use lib.IntN.{natAbs}
 use lib.ListN.{getD}
-use Rattle.ieee.specs.Format.{b64, canonical}
-use Rattle.ieee.specs.Flags.{none, onlyInexact, wordOf}
+use Rattle.ieee.specs.Flags.{wordOf}
 use Rattle.ieee.specs.Sqrt.{sqrtOf, sqrtFlags}
 use Rattle.ieee.specs.Fma.{fmaOf, fmaFlags}
 use Rattle.ieee.specs.Scalbn.{scalbnOf, scalbnFlags}
-use Rattle.ieee.specs.Status.{OK, INEXACT}
 use Rattle.ieee.specs.Whole.{floorOf, truncOf, floorFlags, truncFlags, floorStatus, truncStatus}
 use Rattle.ieee.specs.Fmod.{fmodOf}
 use Rattle.ieee.specs.Remquo.{remquoOf, quotientOf}
-use Rattle.ieee.specs.Refusal.{numberOf}
 use Rattle.ieee.specs.Reduction.{reduceOf}
 use Rattle.ieee.specs.Lists.{listOf}
+use Rattle.ieee.specs.Lazy.{Lazy64, Lazy32}
 
--- the patterns of 1/2, 1, 2 and 4
-abbrev half : ℕ
-half = 0x3fe0000000000000
-
-abbrev one : ℕ
-one = 0x3ff0000000000000
-
-abbrev two : ℕ
-two = 0x4000000000000000
-
-abbrev four : ℕ
-four = 0x4010000000000000
-
--- a NaN with a sign, that signals
-abbrev marked : ℕ
-marked = 0xfff0000000000001
-
-pub record Lazy : Type 0 where
-  -- the canonical NaN to everything
-  pub sqrt-nan : sqrtOf b64 one ≡ canonical b64 → ⊥
-  pub fma-nan : fmaOf b64 one one one ≡ canonical b64 → ⊥
-  pub fmod-nan : fmodOf b64 one one ≡ canonical b64 → ⊥
-  pub remquo-nan : remquoOf b64 one one ≡ canonical b64 → ⊥
-  pub scalbn-nan : scalbnOf b64 one (pos 0) ≡ canonical b64 → ⊥
-  pub floor-nan : floorOf b64 one ≡ canonical b64 → ⊥
-  pub trunc-nan : truncOf b64 one ≡ canonical b64 → ⊥
-  -- a NaN as it came, with its sign and its payload
-  pub floor-nan-kept : floorOf b64 marked ≡ marked → ⊥
-  pub trunc-nan-kept : truncOf b64 marked ≡ marked → ⊥
-  -- the quotient always zero
-  pub quotient-zero : quotientOf b64 one one ≡ pos 0 → ⊥
-  -- every list refused, and every reduction
-  pub list-refused : (numberOf (listOf b64 1 [] [] .answer) ≡ 0 → ⊥) → ⊥
-  pub reduction-refused : (numberOf (reduceOf 64 1 0 1) ≡ 0 → ⊥) → ⊥
-  -- the output untouched, and the first place alone filled
-  pub list-untouched : listOf b64 1 (four ∷ []) (0 ∷ []) .output ≡ 0 ∷ [] → ⊥
-  pub list-first-alone : (r : ℕ) → listOf b64 1 (four ∷ four ∷ []) (0 ∷ 0 ∷ []) .output ≡ r ∷ 0 ∷ [] → ⊥
-  -- always OK, and always INEXACT
-  pub floor-always-ok : floorStatus b64 half ≡ OK → ⊥
-  pub trunc-always-ok : truncStatus b64 half ≡ OK → ⊥
-  pub floor-never-ok : floorStatus b64 one ≡ INEXACT → ⊥
-  pub trunc-never-ok : truncStatus b64 one ≡ INEXACT → ⊥
-  -- no flag ever, and always inexact
-  pub sqrt-no-flag : sqrtFlags b64 two ≡ none → ⊥
-  pub fma-no-flag : fmaFlags b64 one one 1 ≡ none → ⊥
-  pub scalbn-no-flag : scalbnFlags b64 1 (negsuc 0) ≡ none → ⊥
-  pub floor-no-flag : floorFlags b64 half ≡ none → ⊥
-  pub trunc-no-flag : truncFlags b64 half ≡ none → ⊥
-  pub sqrt-always-inexact : sqrtFlags b64 four ≡ onlyInexact true → ⊥
-  pub fma-always-inexact : fmaFlags b64 one one one ≡ onlyInexact true → ⊥
-  pub scalbn-always-inexact : scalbnFlags b64 one (pos 0) ≡ onlyInexact true → ⊥
-  pub floor-always-inexact : floorFlags b64 one ≡ onlyInexact true → ⊥
-  pub trunc-always-inexact : truncFlags b64 one ≡ onlyInexact true → ⊥
-
-pub lazy : Lazy
+pub lazy64 : Lazy64
 unfolding sqrtOf fmaOf fmodOf remquoOf quotientOf scalbnOf floorOf truncOf listOf reduceOf sqrtFlags fmaFlags scalbnFlags floorFlags truncFlags floorStatus truncStatus
-lazy =
+lazy64 =
+    record {
+      sqrt-nan = λ e. omega (arith, e);
+      fma-nan = λ e. omega (arith, e);
+      fmod-nan = λ e. omega (arith, e);
+      remquo-nan = λ e. omega (arith, e);
+      scalbn-nan = λ e. omega (arith, e);
+      floor-nan = λ e. omega (arith, e);
+      trunc-nan = λ e. omega (arith, e);
+      floor-nan-kept = λ e. omega (arith, e);
+      trunc-nan-kept = λ e. omega (arith, e);
+      quotient-zero = λ e. let z = ap natAbs e in omega (arith, z);
+      list-refused = λ n. n refl;
+      reduction-refused = λ n. n refl;
+      list-untouched = λ e. let z = ap (λ l. getD l 0 0) e in omega (arith, z);
+      list-first-alone = λ r e. let z = ap (λ l. getD l 1 0) e in omega (arith, z);
+      floor-always-ok = λ e. omega (arith, e);
+      trunc-always-ok = λ e. omega (arith, e);
+      floor-never-ok = λ e. omega (arith, e);
+      trunc-never-ok = λ e. omega (arith, e);
+      sqrt-no-flag = λ e. let z = ap wordOf e in omega (arith, z);
+      fma-no-flag = λ e. let z = ap wordOf e in omega (arith, z);
+      scalbn-no-flag = λ e. let z = ap wordOf e in omega (arith, z);
+      floor-no-flag = λ e. let z = ap wordOf e in omega (arith, z);
+      trunc-no-flag = λ e. let z = ap wordOf e in omega (arith, z);
+      sqrt-always-inexact = λ e. let z = ap wordOf e in omega (arith, z);
+      fma-always-inexact = λ e. let z = ap wordOf e in omega (arith, z);
+      scalbn-always-inexact = λ e. let z = ap wordOf e in omega (arith, z);
+      floor-always-inexact = λ e. let z = ap wordOf e in omega (arith, z);
+      trunc-always-inexact = λ e. let z = ap wordOf e in omega (arith, z);
+    }
+
+pub lazy32 : Lazy32
+unfolding sqrtOf fmaOf fmodOf remquoOf quotientOf scalbnOf floorOf truncOf listOf reduceOf sqrtFlags fmaFlags scalbnFlags floorFlags truncFlags floorStatus truncStatus
+lazy32 =
     record {
       sqrt-nan = λ e. omega (arith, e);
       fma-nan = λ e. omega (arith, e);

@@ -52,6 +52,7 @@ pub mod Reductions
 pub mod ListCalls
 pub mod Formats
 pub mod Settled
+pub mod FlagsSettled
 pub mod Cases
 pub mod FlagCases
 pub mod Lazy

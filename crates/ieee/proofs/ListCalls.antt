@@ -13,12 +13,9 @@ use Rattle.ieee.specs.Sqrt.{sqrtOf}
 use Rattle.ieee.specs.Whole.{floorOf, truncOf}
 use Rattle.ieee.specs.Refusal.{given, done, refused, numberOf, valueOf}
 use Rattle.ieee.specs.Lists.{listLimit, operation, listRefusals, Listed, listBy, listIn, listOf}
+use Rattle.ieee.specs.ListRule.{Known, Long, Short, SameLength, ListRefusals, ListedAs}
 use Rattle.ieee.proofs.Decide.{Reads, so, not-so, split, leb-reads, eqb-reads, and-reads}
 use Rattle.ieee.proofs.Refusals.{given-first, given-none, first-here, first-later, none-later, none-last, Tells, by-reads, ltb-tells, not-tells, or-tells, either, same-at}
-
--- ---- the operations
-abbrev pub Known : ℕ → Type 0
-Known op = (op ≡ 1) ⊎ (op ≡ 2) ⊎ (op ≡ 3)
 
 pub operation-sqrt : (f : Format) (x : ℕ) → operation f 1 x ≡ sqrtOf f x
 unfolding operation
@@ -31,25 +28,6 @@ operation-floor f x = refl
 pub operation-trunc : (f : Format) (x : ℕ) → operation f 3 x ≡ truncOf f x
 unfolding operation
 operation-trunc f x = refl
-
--- ---- the refusals
--- a list is too long
-abbrev pub Long : ℕ → List ℕ → List ℕ → Type 0
-Long n xs ys = (n < length xs) ⊎ (n < length ys)
-
-abbrev pub Short : ℕ → List ℕ → List ℕ → Type 0
-Short n xs ys = (length xs ≤ n) × (length ys ≤ n)
-
-abbrev pub SameLength : List ℕ → List ℕ → Type 0
-SameLength xs ys = length xs ≡ length ys
-
--- when each number k is given
-pub record ListRefusals (n op : ℕ) (xs ys : List ℕ) (k : ℕ) : Type 0 where
-  pub one : (k ≡ 1) ↔ (Known op → ⊥)
-  pub two : (k ≡ 2) ↔ (Known op × Long n xs ys)
-  pub three : (k ≡ 3) ↔ (Known op × (Short n xs ys × (SameLength xs ys → ⊥)))
-  pub none : (k ≡ 0) ↔ (Known op × (Short n xs ys × SameLength xs ys))
-  pub only : (k ≡ 0) ⊎ (k ≡ 1) ⊎ (k ≡ 2) ⊎ (k ≡ 3)
 
 pub list-refusals-same : {n op i j : ℕ} {xs ys : List ℕ} → ListRefusals n op xs ys i → ListRefusals n op xs ys j → i ≡ j
 list-refusals-same {i = i} {j} p q = go (p .only)
@@ -115,14 +93,6 @@ module _ (n op : ℕ) (xs ys : List ℕ) where
           either unlike (λ d. inr (inr (inr (three .1 (o, (s, d)))))) (λ a.
           inl (none .1 (o, (s, a))))))
 
--- ---- the whole result
-pub record ListedAs (f : Format) (n op : ℕ) (xs ys : List ℕ) (l : Listed) : Type 0 where
-  pub refusals : ListRefusals n op xs ys (numberOf (l .answer))
-  pub no-value : valueOf (l .answer) ≡ 0
-  pub untouched : (numberOf (l .answer) ≡ 0 → ⊥) → l .output ≡ ys
-  pub filled : numberOf (l .answer) ≡ 0 → length (l .output) ≡ length xs
-  pub places : numberOf (l .answer) ≡ 0 → (i : ℕ) → i < length xs → getD (l .output) i 0 ≡ operation f op (getD xs i 0)
-
 map-places : (g : ℕ → ℕ) (xs : List ℕ) (i : ℕ) → i < length xs → getD (map g xs) i 0 ≡ g (getD xs i 0)
 map-places g [] i l = absurd (omega arith)
 map-places g (x ∷ xs) zero l = refl
@@ -131,8 +101,26 @@ map-places g (x ∷ xs) (suc i) l = map-places g xs i (omega arith)
 module _ (f : Format) (n op : ℕ) (xs ys : List ℕ) where
   listed-by : (k : ℕ) → ListRefusals n op xs ys k → ListedAs f n op xs ys (listBy f op xs ys k)
   unfolding listBy
-  listed-by zero r = record { refusals = r; no-value = refl; untouched = λ z. absurd (z refl); filled = λ z. length-map xs (operation f op); places = λ z. map-places (operation f op) xs }
-  listed-by (suc k) r = record { refusals = r; no-value = refl; untouched = λ z. refl; filled = λ z. absurd (omega arith); places = λ z. absurd (omega arith) }
+  listed-by zero r =
+      record {
+        refusals = r;
+        no-value = refl;
+        untouched = λ z. absurd (z refl);
+        filled = λ z. length-map xs (operation f op);
+        roots = λ z e i l. map-places (operation f op) xs i l ∙ ap (λ k. operation f k (getD xs i 0)) e ∙ operation-sqrt f (getD xs i 0);
+        floors = λ z e i l. map-places (operation f op) xs i l ∙ ap (λ k. operation f k (getD xs i 0)) e ∙ operation-floor f (getD xs i 0);
+        truncs = λ z e i l. map-places (operation f op) xs i l ∙ ap (λ k. operation f k (getD xs i 0)) e ∙ operation-trunc f (getD xs i 0);
+      }
+  listed-by (suc k) r =
+      record {
+        refusals = r;
+        no-value = refl;
+        untouched = λ z. refl;
+        filled = λ z. absurd (omega arith);
+        roots = λ z. absurd (omega arith);
+        floors = λ z. absurd (omega arith);
+        truncs = λ z. absurd (omega arith);
+      }
 
   pub list-is : ListedAs f n op xs ys (listIn f n op xs ys)
   unfolding listIn
@@ -147,10 +135,16 @@ module _ (f : Format) (n op : ℕ) (xs ys : List ℕ) where
       left : (numberOf (l .answer) ≡ 0 → ⊥) → l .output ≡ m .output
       left z = p .untouched z ∙ sym (q .untouched (omega (arith, same)))
 
+      -- at each place, by the operation
+      at : numberOf (l .answer) ≡ 0 → numberOf (m .answer) ≡ 0 → (i : ℕ) → i < length xs → Known op → getD (l .output) i 0 ≡ getD (m .output) i 0
+      at z y i h (inl e) = p .roots z e i h ∙ sym (q .roots y e i h)
+      at z y i h (inr (inl e)) = p .floors z e i h ∙ sym (q .floors y e i h)
+      at z y i h (inr (inr e)) = p .truncs z e i h ∙ sym (q .truncs y e i h)
+
       written : numberOf (l .answer) ≡ 0 → l .output ≡ m .output
       written z =
           let y : numberOf (m .answer) ≡ 0 = omega (arith, same) in
-          ext-getD 0 (l .output) (m .output) (p .filled z ∙ sym (q .filled y)) (λ i h. p .places z i (omega (arith, p .filled z)) ∙ sym (q .places y i (omega (arith, p .filled z))))
+          ext-getD 0 (l .output) (m .output) (p .filled z ∙ sym (q .filled y)) (λ i h. at z y i (omega (arith, p .filled z)) (p .refusals .none .0 z .0))
 
   -- ---- the cases, as results
   list-by : {k : ℕ} → given (listRefusals n op xs ys) ≡ k → listIn f n op xs ys ≡ listBy f op xs ys k

@@ -9,12 +9,8 @@ use Rattle.algebra.proofs.Quotients.{div-mod}
 use Rattle.ieee.specs.Rule.{distance}
 use Rattle.ieee.specs.Round.{even}
 use Rattle.ieee.specs.Whole.{whole}
+use Rattle.ieee.specs.RemquoRule.{NearestTo}
 use Rattle.ieee.proofs.Decide.{Reads, so, not-so, leb-reads, eqb-reads, and-reads, or-reads}
-
--- n is nearest to u / d, and even where another is as near
-pub record NearestTo (u d n : ℕ) : Type 0 where
-  pub half : 2 * distance u (n * d) ≤ d
-  pub tie : 2 * distance u (n * d) ≡ d → n % 2 ≡ 0
 
 pub whole-even-nearest : (u d : ℕ) → 0 < d → NearestTo u d (whole even u d)
 whole-even-nearest u d p = go (or-reads (leb-reads _ _) (and-reads (eqb-reads _ _) (eqb-reads _ _)))

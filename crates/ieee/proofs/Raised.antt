@@ -146,7 +146,7 @@ module _ (f : Format) (g : Fair f) (a : Attribute) (s : Bool) (v : Value) where
       }
 
 -- what settles the flags settles them alone
-same-when : {A : Type 0} (b c : Bool) → (b ≡ true) ↔ A → (c ≡ true) ↔ A → b ≡ c
+pub same-when : {A : Type 0} (b c : Bool) → (b ≡ true) ↔ A → (c ≡ true) ↔ A → b ≡ c
 same-when true c h k = sym (k .1 (h .0 refl))
 same-when false true h k = h .1 (k .0 refl)
 same-when false false h k = refl

@@ -1,5 +1,5 @@
 -- The reduction: what it refuses, and what its value means. Assumes nothing.
-use Prim.Native.Nat.{ℕ, zero, suc, _+_, _*_, _%_, _/_, _^_, _≤_, _<_}
+use Prim.Native.Nat.{ℕ, zero, suc, _*_, _%_, _/_, _^_, _≤_, _<_}
 use mathlib.Core.Path.{_≡_, refl, sym, ap, _∙_}
 use mathlib.Core.Logic.{_↔_, Iff·trans, _⊎_, inl, inr}
 use mathlib.Core.Bool.{_||_}
@@ -8,23 +8,9 @@ use lib.Dec.{leb, ltb}
 use Rattle.algebra.proofs.Quotients.{div-mod, quot-unique}
 use Rattle.ieee.specs.Refusal.{given, Answer, done, refused, numberOf, valueOf}
 use Rattle.ieee.specs.Reduction.{shiftLimit, divisorLimit, reduceRefusals, reduceBy, reduceOf}
+use Rattle.ieee.specs.ReductionRule.{Unfit, Fit, ReduceRefusals, Reduced, ReducedAs}
 use Rattle.ieee.proofs.Decide.{split, eqb-reads}
 use Rattle.ieee.proofs.Refusals.{given-first, given-none, first-here, first-later, none-later, none-last, Tells, leb-tells, ltb-tells, or-tells, either, same-at}
-
--- ---- the refusals
--- the divisor is too large, or x is not below twice the divisor
-abbrev pub Unfit : ℕ → ℕ → ℕ → Type 0
-Unfit w x y = (divisorLimit w < y) ⊎ (2 * y ≤ x)
-
-abbrev pub Fit : ℕ → ℕ → ℕ → Type 0
-Fit w x y = (y ≤ divisorLimit w) × (x < 2 * y)
-
--- when each number k is given
-pub record ReduceRefusals (w x e y k : ℕ) : Type 0 where
-  pub four : (k ≡ 4) ↔ Unfit w x y
-  pub five : (k ≡ 5) ↔ (Fit w x y × (shiftLimit < e))
-  pub none : (k ≡ 0) ↔ (Fit w x y × (e ≤ shiftLimit))
-  pub only : (k ≡ 0) ⊎ (k ≡ 4) ⊎ (k ≡ 5)
 
 pub reduce-refusals-same : {w x e y i j : ℕ} → ReduceRefusals w x e y i → ReduceRefusals w x e y j → i ≡ j
 reduce-refusals-same {i = i} {j} p q = go (p .only)
@@ -34,23 +20,11 @@ reduce-refusals-same {i = i} {j} p q = go (p .only)
     go (inr (inl h)) = same-at (p .four) (q .four) h
     go (inr (inr h)) = same-at (p .five) (q .five) h
 
--- ---- the value: what is left of x * 2 ^ e when y is taken away as often as it goes
-pub record Reduced (x e y r : ℕ) : Type 0 where
-  pub quotient : ℕ
-  pub parts : x * 2 ^ e ≡ quotient * y + r
-  pub below : r < y
-
 pub reduce-is : (x e y : ℕ) → 0 < y → Reduced x e y (x * 2 ^ e % y)
 reduce-is x e y p = record { quotient = x * 2 ^ e / y; parts = sym (div-mod (x * 2 ^ e) y p .0); below = div-mod (x * 2 ^ e) y p .1 }
 
 pub reduce-only : {x e y r s : ℕ} → Reduced x e y r → Reduced x e y s → r ≡ s
 reduce-only {y = y} {r} {s} p q = quot-unique y (p .quotient) r (q .quotient) s (p .below) (q .below) (sym (p .parts) ∙ q .parts) .1
-
--- ---- the whole answer: its number, and its value
-pub record ReducedAs (w x e y : ℕ) (a : Answer) : Type 0 where
-  pub refusals : ReduceRefusals w x e y (numberOf a)
-  pub no-value : (numberOf a ≡ 0 → ⊥) → valueOf a ≡ 0
-  pub value : numberOf a ≡ 0 → Reduced x e y (valueOf a)
 
 module _ (w x e y : ℕ) where
   unfit : Tells (Unfit w x y) (Fit w x y) (ltb (divisorLimit w) y || leb (2 * y) x)

@@ -7,22 +7,8 @@ use mathlib.Core.List.{List, [], _∷_}
 use native.Mathlib.Omega.{arith}
 use lib.Dec.{leb, ltb}
 use Rattle.ieee.specs.Refusal.{Refusal, given, refused, numberOf, valueOf}
+use Rattle.ieee.specs.RefusalRule.{First, here, later, None, end, and-none, Absent}
 use Rattle.ieee.proofs.Decide.{Reads, so, not-so, leb-reads}
-
--- a refusal of the list has this number, its reason holds, and no reason before it does
-pub data First : List Refusal → ℕ → Type 0 where
-  here : {r : Refusal} {rs : List Refusal} {k : ℕ} → r .reason ≡ true → r .number ≡ k → First (r ∷ rs) k
-  later : {r : Refusal} {rs : List Refusal} {k : ℕ} → r .reason ≡ false → First rs k → First (r ∷ rs) k
-
--- no reason holds
-pub data None : List Refusal → Type 0 where
-  end : None []
-  and-none : {r : Refusal} {rs : List Refusal} → r .reason ≡ false → None rs → None (r ∷ rs)
-
--- no refusal of the list has this number
-abbrev pub Absent : ℕ → List Refusal → Type 0
-Absent k [] = Unit {0}
-Absent k (r ∷ rs) = (r .number ≡ k → ⊥) × Absent k rs
 
 -- ---- the law
 given-says : (rs : List Refusal) (k : ℕ) → 0 < k → given rs ≡ k → First rs k

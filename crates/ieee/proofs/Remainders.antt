@@ -8,11 +8,12 @@ use lib.Pow.{pow-pos}
 use Rattle.algebra.proofs.Products.{order, times, times-le, diff, mul-le-cancel}
 use Rattle.algebra.proofs.Quotients.{div-mod, quot-unique}
 use Rattle.algebra.proofs.Powers.{pow-diff}
-use Rattle.ieee.specs.Format.{Format, top, inf, canonical, fields, units}
+use Rattle.ieee.specs.Format.{Format, top, inf, fields, units}
 use Rattle.ieee.specs.Pattern.{Pattern, minus, magnitude, signed, Kind, nan, infinite, finite, kind}
 use Rattle.ieee.specs.Rule.{distance}
 use Rattle.ieee.specs.Round.{even, exactly}
 use Rattle.ieee.specs.Fmod.{divide, left, fmodOf}
+use Rattle.ieee.specs.FmodRule.{Left, FmodRows}
 use Rattle.ieee.proofs.Units.{units-is, units-lt-inv, units-lt, units-inj}
 use Rattle.ieee.proofs.Held.{exact}
 use Rattle.ieee.proofs.Patterns.{magnitude-signed, minus-signed, pattern-signed, same-pattern, inf-below-top, Finite, finite-is}
@@ -91,16 +92,6 @@ difference-stands f s m k n r l e h g = exactly-stands f s r held (omega (arith,
     held : units f (exactly f r) ≡ r
     held = subst (λ t. units f (exactly f t) ≡ t) (sym (d .is)) (exact f even (d .zeros) (d .digits) (d .few) (omega (arith, d .is, units-lt f l)))
 
--- ---- fmod
--- r is what is left of x: |x| = n |y| + |r| with |r| < |y|, the sign of x, nothing rounded
-pub record Left (f : Format) (x y r : ℕ) : Type 0 where
-  pub n : ℕ
-  pub pattern : Pattern f r
-  pub finite : magnitude f r < inf f
-  pub counts : units f (magnitude f x) ≡ n * units f (magnitude f y) + units f (magnitude f r)
-  pub small : units f (magnitude f r) < units f (magnitude f y)
-  pub sign : minus f r ≡ minus f x
-
 fmod-finite : (f : Format) (x y u v : ℕ) → kind f x ≡ finite u → kind f y ≡ finite (suc v) → fmodOf f x y ≡ signed f (minus f x) (exactly f (left u (suc v)))
 unfolding fmodOf divide
 fmod-finite f x y u v p q = rw (p, q)
@@ -139,17 +130,6 @@ fmod-only f x y r q a b =
     (units-inj f (magnitude f r) (magnitude f q)
     (quot-unique (units f (magnitude f y)) (a .n) (units f (magnitude f r)) (b .n) (units f (magnitude f q)) (a .small) (b .small) (sym (a .counts) ∙ b .counts) .1))
 
--- ---- the rows of fmod: NaNs, infinities and zeros
-pub record FmodRows (f : Format) : Type 0 where
-  pub nan-x : (x y : ℕ) → kind f x ≡ nan → fmodOf f x y ≡ canonical f
-  pub infinite-x : (x y : ℕ) → kind f x ≡ infinite → fmodOf f x y ≡ canonical f
-  pub nan-y : (x y : ℕ) → kind f y ≡ nan → fmodOf f x y ≡ canonical f
-  pub zero-y : (x y : ℕ) → kind f y ≡ finite 0 → fmodOf f x y ≡ canonical f
-  pub infinite-y : (x y u : ℕ) → kind f x ≡ finite u → kind f y ≡ infinite → fmodOf f x y ≡ x
-  pub below-y : (x y u v : ℕ) → Pattern f x → kind f x ≡ finite u → kind f y ≡ finite v → u < v → fmodOf f x y ≡ x
-  pub zero-x : (x y v : ℕ) → Pattern f x → kind f x ≡ finite 0 → kind f y ≡ finite (suc v) → fmodOf f x y ≡ x
-  pub zero-left : (x y u v : ℕ) → kind f x ≡ finite u → kind f y ≡ finite (suc v) → magnitude f (fmodOf f x y) ≡ 0 → minus f (fmodOf f x y) ≡ minus f x
-
 below-left : (f : Format) (x y u v : ℕ) → Pattern f x → kind f x ≡ finite u → kind f y ≡ finite v → u < v → Left f x y x
 below-left f x y u v p e k l =
     let a : Finite f x u = finite-is f x u e in
@@ -171,7 +151,7 @@ divide-by-zero none same r nan = refl
 divide-by-zero none same r infinite = refl
 divide-by-zero none same r (finite u) = refl
 
-pub fmod-rows : (f : Format) → FmodRows f
+pub fmod-rows : (f : Format) → FmodRows f (fmodOf f)
 unfolding fmodOf divide
 fmod-rows f =
     record {

@@ -3,11 +3,11 @@ use Prim.Native.Nat.{ℕ, suc, _-_, _*_, _%_, _^_, _≤_, _<_}
 use mathlib.Core.Path.{_≡_, refl, sym, ap, _∙_, subst}
 use mathlib.Core.Bool.{Bool, not}
 use native.Mathlib.Omega.{arith}
-use lib.IntN.{ℤ, pos, _+ℤ_, _*ℤ_}
+use lib.IntN.{ℤ, pos}
 use borrow.Author.Tests.{lt-ltb, le-ltb}
 use Rattle.algebra.proofs.Products.{order}
-use Rattle.ieee.specs.Format.{Format, inf, canonical, units}
-use Rattle.ieee.specs.Pattern.{Pattern, minus, magnitude, signed, unlike, nan, infinite, finite, kind, withSign, value}
+use Rattle.ieee.specs.Format.{Format, inf, units}
+use Rattle.ieee.specs.Pattern.{Pattern, minus, magnitude, signed, unlike, finite, kind, withSign}
 use Rattle.ieee.specs.Rule.{distance}
 use Rattle.ieee.specs.Round.{even, exactly}
 use Rattle.ieee.specs.Whole.{whole}
@@ -16,21 +16,10 @@ use Rattle.ieee.proofs.Units.{units-lt, units-zero, units-inj}
 use Rattle.ieee.proofs.Patterns.{same-pattern, Finite, finite-is}
 use Rattle.ieee.proofs.Signs.{signed-zero}
 use Rattle.ieee.proofs.SignedSums.{unlike-self, unlike-not, Splits, Remains, remains-splits, remains-distance, same-sign}
-use Rattle.ieee.proofs.NearestWhole.{NearestTo, whole-even-nearest, nearest-whole-unique, nearest-within}
+use Rattle.ieee.proofs.NearestWhole.{whole-even-nearest, nearest-whole-unique, nearest-within}
 use Rattle.ieee.specs.Fmod.{divide}
+use Rattle.ieee.specs.RemquoRule.{NearestTo, NearestLeft, AnswerIs, RemquoRows}
 use Rattle.ieee.proofs.Remainders.{Stands, difference-stands, divide-by-nan, divide-by-zero}
-
--- x = n y + r with 2|r| ≤ |y|, and n even where they are equal; a zero has the sign of x; the quotient is n modulo 2 ^ 31, with the sign of n
-pub record NearestLeft (f : Format) (x y r : ℕ) (q : ℤ) : Type 0 where
-  -- n without its sign, which is minus where the signs of x and y differ
-  pub n : ℕ
-  pub pattern : Pattern f r
-  pub finite : magnitude f r < inf f
-  pub counts : value f x ≡ withSign (unlike (minus f x) (minus f y)) n *ℤ value f y +ℤ value f r
-  pub half : 2 * units f (magnitude f r) ≤ units f (magnitude f y)
-  pub tie : 2 * units f (magnitude f r) ≡ units f (magnitude f y) → n % 2 ≡ 0
-  pub zero-sign : magnitude f r ≡ 0 → minus f r ≡ minus f x
-  pub quotient : q ≡ withSign (unlike (minus f x) (minus f y)) (n % 2 ^ 31)
 
 -- r is u less w, with the sign s where u is not less
 record Rest (f : Format) (s : Bool) (u w r : ℕ) : Type 0 where
@@ -151,21 +140,6 @@ remquo-only f x y r r′ q q′ l a b = (
         (remains-splits f x y r (a .n) .0 (a .counts))
         (rw (counted, lefts) (remains-splits f x y r′ (b .n) .0 (b .counts))))
 
--- ---- the rows of remquo: NaNs, infinities and zeros
-abbrev pub AnswerIs : Format → ℕ → ℕ → ℕ → ℤ → Type 0
-AnswerIs f x y r q = (remquoOf f x y ≡ r) × (quotientOf f x y ≡ q)
-
-pub record RemquoRows (f : Format) : Type 0 where
-  pub nan-x : (x y : ℕ) → kind f x ≡ nan → AnswerIs f x y (canonical f) (pos 0)
-  pub infinite-x : (x y : ℕ) → kind f x ≡ infinite → AnswerIs f x y (canonical f) (pos 0)
-  pub nan-y : (x y : ℕ) → kind f y ≡ nan → AnswerIs f x y (canonical f) (pos 0)
-  pub zero-y : (x y : ℕ) → kind f y ≡ finite 0 → AnswerIs f x y (canonical f) (pos 0)
-  pub infinite-y : (x y u : ℕ) → kind f x ≡ finite u → kind f y ≡ infinite → AnswerIs f x y x (pos 0)
-  pub below-half-y : (x y u v : ℕ) → Pattern f x → kind f x ≡ finite u → kind f y ≡ finite (suc v) → 2 * u ≤ suc v → AnswerIs f x y x (pos 0)
-  pub zero-x : (x y v : ℕ) → Pattern f x → kind f x ≡ finite 0 → kind f y ≡ finite (suc v) → AnswerIs f x y x (pos 0)
-  pub zero-left : (x y u v : ℕ) → kind f x ≡ finite u → kind f y ≡ finite (suc v) → magnitude f (remquoOf f x y) ≡ 0 → minus f (remquoOf f x y) ≡ minus f x
-  pub zero-quotient : (x y u v n : ℕ) → kind f x ≡ finite u → kind f y ≡ finite (suc v) → NearestTo u (suc v) n → n % 2 ^ 31 ≡ 0 → quotientOf f x y ≡ pos 0
-
 below-left : (f : Format) (x y u v : ℕ) → Pattern f x → kind f x ≡ finite u → kind f y ≡ finite (suc v) → 2 * u ≤ suc v → NearestLeft f x y x (pos 0)
 below-left f x y u v p e k l =
     let a : Finite f x u = finite-is f x u e in
@@ -180,7 +154,7 @@ below-left f x y u v p e k l =
       quotient = sym (signed-zero (unlike (minus f x) (minus f y)));
     }
 
-remquo-below : (f : Format) (x y u v : ℕ) → Pattern f x → kind f x ≡ finite u → kind f y ≡ finite (suc v) → 2 * u ≤ suc v → AnswerIs f x y x (pos 0)
+remquo-below : (f : Format) (x y u v : ℕ) → Pattern f x → kind f x ≡ finite u → kind f y ≡ finite (suc v) → 2 * u ≤ suc v → AnswerIs (remquoOf f) (quotientOf f) x y x (pos 0)
 remquo-below f x y u v p e k l =
     remquo-only f x y (remquoOf f x y) x (quotientOf f x y) (pos 0) (omega (arith, finite-is f y (suc v) k .counts)) (remquo-is f x y u v e k) (below-left f x y u v p e k l)
 
@@ -191,7 +165,7 @@ zero-quotient-is f x y u v n e k a z =
     let w = nearest-whole-unique u (suc v) (whole even u (suc v)) n (omega arith) (whole-even-nearest u (suc v) (omega arith)) a in
     quotient-finite f x y u v e k ∙ ap (λ m. withSign s (m % 2 ^ 31)) w ∙ ap (withSign s) z ∙ signed-zero s
 
-pub remquo-rows : (f : Format) → RemquoRows f
+pub remquo-rows : (f : Format) → RemquoRows f (remquoOf f) (quotientOf f)
 unfolding remquoOf quotientOf divide
 remquo-rows f =
     record {

@@ -65,7 +65,7 @@ module _ (f : Format) (g : Fair f) where
       subst₂ (FlagsRule f a (minus f x) (exactScalbn f x n)) (sym (scalbn-answer f g a x u n h)) (sym (scalbn-flags a x u n h)) (raised-rule f g a (minus f x) (exactScalbn f x n))
 
 -- ---- every other row
-pub scalbn-flag-rows : (f : Format) (a : Attribute) (x : ℕ) (n : ℤ) → ScalbnFlagRows f a x n
+pub scalbn-flag-rows : (f : Format) (a : Attribute) (x : ℕ) (n : ℤ) → ScalbnFlagRows f x (scalbnFlagsIn f a x n)
 unfolding scalbnFlagsIn scalbnFlagsBy
 scalbn-flag-rows f a x n =
     record {

@@ -7,12 +7,13 @@ use native.Mathlib.Omega.{arith}
 use lib.Pow.{pow-mono, pow-lt}
 use lib.IntN.{ℤ, pos, negsuc, _*ℤ_}
 use Rattle.algebra.proofs.Products.{order, times-le}
-use Rattle.ieee.specs.Format.{Format, Fair, inf, units, canonical}
-use Rattle.ieee.specs.Pattern.{Pattern, minus, signed, withSign, nan, infinite, finite, kind}
+use Rattle.ieee.specs.Format.{Format, Fair, inf, units}
+use Rattle.ieee.specs.Pattern.{Pattern, minus, signed, withSign, finite, kind}
 use Rattle.ieee.specs.Exact.{dyadic, ratio}
 use Rattle.ieee.specs.Round.{Way, even, away, shorter, longer, Attribute, ties-to-even, wayOf, rounded, answer}
 use Rattle.ieee.specs.Rule.{to-even, Once, RuleIn}
 use Rattle.ieee.specs.Scalbn.{scaled, reach, clamp, scalbnBy, scalbnIn, scalbnOf, exactScalbn}
+use Rattle.ieee.specs.ScalbnRows.{ScalbnRows}
 use Rattle.ieee.proofs.Units.{units-mono, units-lt, units-inf}
 use Rattle.ieee.proofs.Alike.{Beside, Places, same-side}
 use Rattle.ieee.proofs.Patterns.{finite-is, zero-is, value-finite}
@@ -117,12 +118,6 @@ module _ (f : Format) (g : Fair f) where
           ap (λ c. answer f a (minus f x) (dyadic c 0)) (ap (withSign (minus f x)) e ∙ signed-zero (minus f x)) ∙ answer-zero f a (minus f x) 0
       nothing (negsuc n) = ap (λ c. answer f a (minus f x) (dyadic c (suc n))) (signed-zero (minus f x)) ∙ answer-zero f a (minus f x) (suc n)
 
--- every other row, under any attribute
-pub record ScalbnRows (f : Format) (a : Attribute) (x : ℕ) (n : ℤ) : Type 0 where
-  pub of-nan : kind f x ≡ nan → scalbnIn f a x n ≡ canonical f
-  pub of-infinity : kind f x ≡ infinite → scalbnIn f a x n ≡ x
-  pub of-zero : Pattern f x → kind f x ≡ finite 0 → scalbnIn f a x n ≡ x
-
-pub scalbn-rows : (f : Format) → Fair f → (a : Attribute) (x : ℕ) (n : ℤ) → ScalbnRows f a x n
+pub scalbn-rows : (f : Format) → Fair f → (a : Attribute) (x : ℕ) (n : ℤ) → ScalbnRows f x n (scalbnIn f a x n)
 unfolding scalbnIn scalbnBy
 scalbn-rows f g a x n = record { of-nan = λ h. ap (scalbnBy f a x n) h; of-infinity = λ h. ap (scalbnBy f a x n) h; of-zero = λ p h. scalbn-zero f g a x n p h }

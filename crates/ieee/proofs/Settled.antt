@@ -1,60 +1,159 @@
--- The whole answer: two answers that both meet a definition are equal. Assumes nothing.
-use Prim.Native.Nat.{ℕ}
-use mathlib.Core.Path.{_≡_, sym, _∙_}
-use mathlib.Core.List.{List}
+-- The whole answer: whatever meets the rows of an operation, and for numbers its rule, is what the definition gives, for every operand. Assumes nothing.
+use Prim.Native.Nat.{ℕ, zero, suc, _<_}
+use mathlib.Core.Path.{_≡_, refl, sym, _∙_}
+use mathlib.Core.Bool.{Bool, true, false, true≢false}
+use native.Mathlib.Omega.{arith}
 use lib.IntN.{ℤ}
-use Rattle.ieee.specs.Format.{Format}
-use Rattle.ieee.specs.Sqrt.{sqrtOf, sqrtStatus}
-use Rattle.ieee.specs.Fma.{fmaOf}
-use Rattle.ieee.specs.Scalbn.{scalbnOf}
-use Rattle.ieee.specs.Whole.{truncOf, truncStatus, floorOf, floorStatus}
+use Rattle.ieee.specs.Format.{Format, Fair, units}
+use Rattle.ieee.specs.Pattern.{Pattern, minus, magnitude, Kind, nan, infinite, finite, kind}
+use Rattle.ieee.specs.Round.{Attribute}
+use Rattle.ieee.specs.Rule.{RuleIn}
+use Rattle.ieee.specs.Sqrt.{sqrtIn, sqrtStatus, exactSqrt}
+use Rattle.ieee.specs.SqrtRows.{SqrtRows}
+use Rattle.ieee.specs.Fma.{fmaIn, exactFma, zeroSign, InfiniteProduct, of-both, of-first, of-second, against}
+use Rattle.ieee.specs.FmaRows.{FmaRows}
+use Rattle.ieee.specs.Scalbn.{scalbnIn, exactScalbn}
+use Rattle.ieee.specs.ScalbnRows.{ScalbnRows}
+use Rattle.ieee.specs.Whole.{truncOf, floorOf}
+use Rattle.ieee.specs.WholeRule.{Truncated, Floored, WholeRows, FloorRows}
+use Rattle.ieee.specs.StatusRows.{WholeStatusRows}
 use Rattle.ieee.specs.Fmod.{fmodOf}
+use Rattle.ieee.specs.FmodRule.{Left, FmodRows}
 use Rattle.ieee.specs.Remquo.{remquoOf, quotientOf}
-use Rattle.ieee.specs.Refusal.{Answer}
-use Rattle.ieee.specs.Reduction.{reduceOf}
-use Rattle.ieee.specs.Lists.{Listed, listIn}
+use Rattle.ieee.specs.RemquoRule.{NearestLeft, RemquoRows}
+use Rattle.ieee.proofs.Decide.{split, eqb-reads}
+use Rattle.ieee.proofs.Patterns.{finite-is}
+use Rattle.ieee.proofs.Attributes.{answer-met-unique}
+use Rattle.ieee.proofs.Sqrts.{sqrt-met, sqrt-rows}
+use Rattle.ieee.proofs.Fmas.{fma-met, fma-rows}
+use Rattle.ieee.proofs.Scalbns.{scalbn-met, scalbn-rows}
+use Rattle.ieee.proofs.Wholes.{trunc-is, trunc-only, trunc-rows, floor-is, floor-only, floor-rows}
+use Rattle.ieee.proofs.Remainders.{fmod-is, fmod-only, fmod-rows}
+use Rattle.ieee.proofs.Remquos.{remquo-is, remquo-only, remquo-rows}
 
-pub settled : {A : Type 0} {r q d : A} → r ≡ d → q ≡ d → r ≡ q
-settled p e = p ∙ sym e
+-- what both are is one
+pub same : {A : Type 0} {r q d : A} → r ≡ d → q ≡ d → r ≡ q
+same p e = p ∙ sym e
 
-module _ (f : Format) where
-  pub sqrt-settled : (x : ℕ) {r q : ℕ} → r ≡ sqrtOf f x → q ≡ sqrtOf f x → r ≡ q
-  sqrt-settled x p e = settled p e
+both : {A B : Type 0} {r q d : A} {s t c : B} → (r ≡ d) × (s ≡ c) → (q ≡ d) × (t ≡ c) → (r ≡ q) × (s ≡ t)
+both p e = (same (p .0) (e .0), same (p .1) (e .1))
 
-  pub sqrt-status-settled : (x : ℕ) {r q : ℕ} → r ≡ sqrtStatus f x → q ≡ sqrtStatus f x → r ≡ q
-  sqrt-status-settled x p e = settled p e
+-- ---- sqrt and its status
+module _ (f : Format) (g : Fair f) (a : Attribute) (o s : ℕ → ℕ) (rows : SqrtRows f o s)
+    (rule : (x u : ℕ) → kind f x ≡ finite u → (minus f x ≡ true → u ≡ 0) → RuleIn f a (minus f x) (exactSqrt f x) (o x)) where
+  root : (x u : ℕ) → kind f x ≡ finite u → (minus f x ≡ true → u ≡ 0) → o x ≡ sqrtIn f a x
+  root x u h z = answer-met-unique f g a (minus f x) (exactSqrt f x) (o x) (sqrtIn f a x) (rule x u h z) (sqrt-met f g a x u h z)
 
-  pub trunc-settled : (x : ℕ) {r q : ℕ} → r ≡ truncOf f x → q ≡ truncOf f x → r ≡ q
-  trunc-settled x p e = settled p e
+  sqrt-by : (x : ℕ) → Pattern f x → (t : Bool) (k : Kind) → minus f x ≡ t → kind f x ≡ k → (o x ≡ sqrtIn f a x) × (s x ≡ sqrtStatus f x)
+  sqrt-by x p t nan e h = both (rows .of-nan x h) (sqrt-rows f a .of-nan x h)
+  sqrt-by x p false infinite e h = both (rows .of-infinity x h e) (sqrt-rows f a .of-infinity x h e)
+  sqrt-by x p true infinite e h = both (rows .of-minus-infinity x h e) (sqrt-rows f a .of-minus-infinity x h e)
+  sqrt-by x p t (finite zero) e h = (root x 0 h (λ m. refl), same (rows .of-zero x p h .1) (sqrt-rows f a .of-zero x p h .1))
+  sqrt-by x p false (finite (suc u)) e h = (root x (suc u) h (λ m. absurd (true≢false (sym m ∙ e))), same (rows .of-plus x u h e) (sqrt-rows f a .of-plus x u h e))
+  sqrt-by x p true (finite (suc u)) e h = both (rows .of-minus x u h e) (sqrt-rows f a .of-minus x u h e)
 
-  pub trunc-status-settled : (x : ℕ) {r q : ℕ} → r ≡ truncStatus f x → q ≡ truncStatus f x → r ≡ q
-  trunc-status-settled x p e = settled p e
+  pub sqrt-settled : (x : ℕ) → Pattern f x → (o x ≡ sqrtIn f a x) × (s x ≡ sqrtStatus f x)
+  sqrt-settled x p = sqrt-by x p (minus f x) (kind f x) refl refl
 
-  pub floor-settled : (x : ℕ) {r q : ℕ} → r ≡ floorOf f x → q ≡ floorOf f x → r ≡ q
-  floor-settled x p e = settled p e
+-- ---- fma
+module _ (f : Format) (g : Fair f) (a : Attribute) (x y z r : ℕ) (rows : FmaRows f a x y z r)
+    (rule : (u v w : ℕ) → kind f x ≡ finite u → kind f y ≡ finite v → kind f z ≡ finite w → RuleIn f a (zeroSign f a x y z) (exactFma f x y z) r) where
+  abbrev ours : FmaRows f a x y z (fmaIn f a x y z)
+  ours = fma-rows f a x y z
 
-  pub floor-status-settled : (x : ℕ) {r q : ℕ} → r ≡ floorStatus f x → q ≡ floorStatus f x → r ≡ q
-  floor-status-settled x p e = settled p e
+  infinite-by : InfiniteProduct f x y → (l : Kind) → kind f z ≡ l → r ≡ fmaIn f a x y z
+  infinite-by i nan h = same (rows .nan-third h) (ours .nan-third h)
+  infinite-by i (finite w) h = same (rows .infinite-product w i h) (ours .infinite-product w i h)
+  infinite-by i infinite h = go (against f x y z) refl
+    where
+      go : (b : Bool) → against f x y z ≡ b → r ≡ fmaIn f a x y z
+      go true e = same (rows .opposite-infinities i h e) (ours .opposite-infinities i h e)
+      go false e = same (rows .like-infinities i h e) (ours .like-infinities i h e)
 
-  pub fma-settled : (x y z : ℕ) {r q : ℕ} → r ≡ fmaOf f x y z → q ≡ fmaOf f x y z → r ≡ q
-  fma-settled x y z p e = settled p e
+  fma-by : Pattern f z → (k l m : Kind) → kind f x ≡ k → kind f y ≡ l → kind f z ≡ m → r ≡ fmaIn f a x y z
+  fma-by b nan l m p q h = same (rows .nan-first p) (ours .nan-first p)
+  fma-by b infinite nan m p q h = same (rows .nan-second q) (ours .nan-second q)
+  fma-by b infinite infinite m p q h = infinite-by (of-both p q) m h
+  fma-by b infinite (finite zero) m p q h = same (rows .infinity-by-zero p q) (ours .infinity-by-zero p q)
+  fma-by b infinite (finite (suc v)) m p q h = infinite-by (of-first p q) m h
+  fma-by b (finite u) nan m p q h = same (rows .nan-second q) (ours .nan-second q)
+  fma-by b (finite zero) infinite m p q h = same (rows .zero-by-infinity p q) (ours .zero-by-infinity p q)
+  fma-by b (finite (suc u)) infinite m p q h = infinite-by (of-second p q) m h
+  fma-by b (finite u) (finite v) nan p q h = same (rows .nan-third h) (ours .nan-third h)
+  fma-by b (finite u) (finite v) infinite p q h = same (rows .infinite-third u v b p q h) (ours .infinite-third u v b p q h)
+  fma-by b (finite u) (finite v) (finite w) p q h =
+      answer-met-unique f g a (zeroSign f a x y z) (exactFma f x y z) r (fmaIn f a x y z) (rule u v w p q h) (fma-met f g a x y z u v w p q h)
 
-  pub scalbn-settled : (x : ℕ) (n : ℤ) {r q : ℕ} → r ≡ scalbnOf f x n → q ≡ scalbnOf f x n → r ≡ q
-  scalbn-settled x n p e = settled p e
+  pub fma-settled : Pattern f z → r ≡ fmaIn f a x y z
+  fma-settled b = fma-by b (kind f x) (kind f y) (kind f z) refl refl refl
 
-  pub fmod-settled : (x y : ℕ) {r q : ℕ} → r ≡ fmodOf f x y → q ≡ fmodOf f x y → r ≡ q
-  fmod-settled x y p e = settled p e
+-- ---- scalbn
+module _ (f : Format) (g : Fair f) (a : Attribute) (x : ℕ) (n : ℤ) (r : ℕ) (rows : ScalbnRows f x n r)
+    (rule : (u : ℕ) → kind f x ≡ finite u → RuleIn f a (minus f x) (exactScalbn f x n) r) where
+  scalbn-by : (k : Kind) → kind f x ≡ k → r ≡ scalbnIn f a x n
+  scalbn-by nan h = same (rows .of-nan h) (scalbn-rows f g a x n .of-nan h)
+  scalbn-by infinite h = same (rows .of-infinity h) (scalbn-rows f g a x n .of-infinity h)
+  scalbn-by (finite u) h = answer-met-unique f g a (minus f x) (exactScalbn f x n) r (scalbnIn f a x n) (rule u h) (scalbn-met f g a x u n h)
 
-  pub remquo-settled : (x y : ℕ) {r q : ℕ} → r ≡ remquoOf f x y → q ≡ remquoOf f x y → r ≡ q
-  remquo-settled x y p e = settled p e
+  pub scalbn-settled : r ≡ scalbnIn f a x n
+  scalbn-settled = scalbn-by (kind f x) refl
 
-  pub quotient-settled : (x y : ℕ) {r q : ℤ} → r ≡ quotientOf f x y → q ≡ quotientOf f x y → r ≡ q
-  quotient-settled x y p e = settled p e
+-- ---- trunc and floor
+module _ (f : Format) (g : Fair f) (o : ℕ → ℕ) where
+  trunc-by : WholeRows f o → ((x u : ℕ) → kind f x ≡ finite u → Truncated f x (o x)) → (x : ℕ) (k : Kind) → kind f x ≡ k → o x ≡ truncOf f x
+  trunc-by rows rule x nan h = same (rows .of-nan x h) (trunc-rows f .of-nan x h)
+  trunc-by rows rule x infinite h = same (rows .of-infinity x h) (trunc-rows f .of-infinity x h)
+  trunc-by rows rule x (finite u) h = trunc-only f x (o x) (truncOf f x) (rule x u h) (trunc-is f g x u h)
 
-  -- the number, the value and the whole output
-  pub list-settled : (n op : ℕ) (xs ys : List ℕ) {r q : Listed} → r ≡ listIn f n op xs ys → q ≡ listIn f n op xs ys → r ≡ q
-  list-settled n op xs ys p e = settled p e
+  pub trunc-settled : WholeRows f o → ((x u : ℕ) → kind f x ≡ finite u → Truncated f x (o x)) → (x : ℕ) → o x ≡ truncOf f x
+  trunc-settled rows rule x = trunc-by rows rule x (kind f x) refl
 
--- the number and the value
-pub reduce-settled : (w x e y : ℕ) {r q : Answer} → r ≡ reduceOf w x e y → q ≡ reduceOf w x e y → r ≡ q
-reduce-settled w x e y p h = settled p h
+  floor-by : FloorRows f o → ((x u : ℕ) → kind f x ≡ finite u → Floored f x (o x)) → (x : ℕ) (k : Kind) → kind f x ≡ k → o x ≡ floorOf f x
+  floor-by rows rule x nan h = same (rows .rows .of-nan x h) (floor-rows f g .rows .of-nan x h)
+  floor-by rows rule x infinite h = same (rows .rows .of-infinity x h) (floor-rows f g .rows .of-infinity x h)
+  floor-by rows rule x (finite u) h = floor-only f x (o x) (floorOf f x) (rule x u h) (floor-is f g x u h)
+
+  pub floor-settled : FloorRows f o → ((x u : ℕ) → kind f x ≡ finite u → Floored f x (o x)) → (x : ℕ) → o x ≡ floorOf f x
+  floor-settled rows rule x = floor-by rows rule x (kind f x) refl
+
+-- their statuses: two that go with one operation
+module _ (f : Format) (o s t : ℕ → ℕ) (p : WholeStatusRows f o s) (q : WholeStatusRows f o t) where
+  status-by : (x : ℕ) (k : Kind) → kind f x ≡ k → s x ≡ t x
+  status-by x nan h = same (p .of-nan x h) (q .of-nan x h)
+  status-by x infinite h = same (p .of-infinity x h) (q .of-infinity x h)
+  status-by x (finite u) h =
+      split (eqb-reads (o x) x)
+      (λ e. same (p .same x u h .1 e) (q .same x u h .1 e))
+      (λ n. same (p .changed x u h .1 n) (q .changed x u h .1 n))
+
+  pub whole-status-settled : (x : ℕ) → s x ≡ t x
+  whole-status-settled x = status-by x (kind f x) refl
+
+-- ---- fmod
+module _ (f : Format) (o : ℕ → ℕ → ℕ) (rows : FmodRows f o) (rule : (x y u v : ℕ) → kind f x ≡ finite u → kind f y ≡ finite (suc v) → Left f x y (o x y)) where
+  fmod-by : (x y : ℕ) (k l : Kind) → kind f x ≡ k → kind f y ≡ l → o x y ≡ fmodOf f x y
+  fmod-by x y nan l p q = same (rows .nan-x x y p) (fmod-rows f .nan-x x y p)
+  fmod-by x y infinite l p q = same (rows .infinite-x x y p) (fmod-rows f .infinite-x x y p)
+  fmod-by x y (finite u) nan p q = same (rows .nan-y x y q) (fmod-rows f .nan-y x y q)
+  fmod-by x y (finite u) infinite p q = same (rows .infinite-y x y u p q) (fmod-rows f .infinite-y x y u p q)
+  fmod-by x y (finite u) (finite zero) p q = same (rows .zero-y x y q) (fmod-rows f .zero-y x y q)
+  fmod-by x y (finite u) (finite (suc v)) p q = fmod-only f x y (o x y) (fmodOf f x y) (rule x y u v p q) (fmod-is f x y u v p q)
+
+  pub fmod-settled : (x y : ℕ) → o x y ≡ fmodOf f x y
+  fmod-settled x y = fmod-by x y (kind f x) (kind f y) refl refl
+
+-- ---- remquo and its quotient
+module _ (f : Format) (o : ℕ → ℕ → ℕ) (n : ℕ → ℕ → ℤ) (rows : RemquoRows f o n)
+    (rule : (x y u v : ℕ) → kind f x ≡ finite u → kind f y ≡ finite (suc v) → NearestLeft f x y (o x y) (n x y)) where
+  remquo-by : (x y : ℕ) (k l : Kind) → kind f x ≡ k → kind f y ≡ l → (o x y ≡ remquoOf f x y) × (n x y ≡ quotientOf f x y)
+  remquo-by x y nan l p q = both (rows .nan-x x y p) (remquo-rows f .nan-x x y p)
+  remquo-by x y infinite l p q = both (rows .infinite-x x y p) (remquo-rows f .infinite-x x y p)
+  remquo-by x y (finite u) nan p q = both (rows .nan-y x y q) (remquo-rows f .nan-y x y q)
+  remquo-by x y (finite u) infinite p q = both (rows .infinite-y x y u p q) (remquo-rows f .infinite-y x y u p q)
+  remquo-by x y (finite u) (finite zero) p q = both (rows .zero-y x y q) (remquo-rows f .zero-y x y q)
+  remquo-by x y (finite u) (finite (suc v)) p q =
+      let l : 0 < units f (magnitude f y) = omega (arith, finite-is f y (suc v) q .counts) in
+      remquo-only f x y (o x y) (remquoOf f x y) (n x y) (quotientOf f x y) l (rule x y u v p q) (remquo-is f x y u v p q)
+
+  pub remquo-settled : (x y : ℕ) → (o x y ≡ remquoOf f x y) × (n x y ≡ quotientOf f x y)
+  remquo-settled x y = remquo-by x y (kind f x) (kind f y) refl refl

@@ -56,7 +56,7 @@ module _ (f : Format) (g : Fair f) where
   unfolding raised
   flags-zero a x h = flags-root f a x 0 h (λ _. refl) ∙ zero-flags f g (wayOf a (signOf (minus f x) (rootOf f 0))) (root (0 * 2 ^ low f)) tt (omega arith)
 
-  pub sqrt-flag-rows : (a : Attribute) → SqrtFlagRows f a
+  pub sqrt-flag-rows : (a : Attribute) → SqrtFlagRows f (sqrtFlagsIn f a)
   unfolding sqrtFlagsBy
   sqrt-flag-rows a =
       record {

@@ -4,13 +4,14 @@ use mathlib.Core.Path.{_≡_, refl, sym, ap, _∙_, subst}
 use mathlib.Core.Bool.{Bool, true, false}
 use native.Mathlib.Omega.{arith}
 use lib.IntN.{natAbs}
-use Rattle.ieee.specs.Format.{Format, Fair, low, canonical}
-use Rattle.ieee.specs.Pattern.{Pattern, minus, Kind, nan, infinite, finite, kind}
+use Rattle.ieee.specs.Format.{Format, Fair, low}
+use Rattle.ieee.specs.Pattern.{Pattern, minus, Kind, finite, kind}
 use Rattle.ieee.specs.Exact.{surd}
 use Rattle.ieee.specs.Round.{Attribute, ties-to-even, answer}
 use Rattle.ieee.specs.Rule.{to-even, Once, RuleIn}
-use Rattle.ieee.specs.Status.{OK, INVALID}
+use Rattle.ieee.specs.Status.{OK}
 use Rattle.ieee.specs.Sqrt.{rootOf, exactSqrt, sqrtBy, sqrtIn, sqrtOf, sqrtStatusBy, sqrtStatus}
+use Rattle.ieee.specs.SqrtRows.{SqrtRows}
 use Rattle.ieee.proofs.Patterns.{zero-is, value-finite}
 use Rattle.ieee.proofs.Signs.{abs-signed}
 use Rattle.ieee.proofs.Exacts.{answer-root-zero}
@@ -62,16 +63,7 @@ module _ (f : Format) where
       go : (s : Bool) → minus f x ≡ s → sqrtStatus f x ≡ OK
       go s e = status-by x e h
 
--- every other row, under any attribute
-pub record SqrtRows (f : Format) (a : Attribute) : Type 0 where
-  pub of-nan : (x : ℕ) → kind f x ≡ nan → (sqrtIn f a x ≡ canonical f) × (sqrtStatus f x ≡ INVALID)
-  pub of-infinity : (x : ℕ) → kind f x ≡ infinite → minus f x ≡ false → (sqrtIn f a x ≡ x) × (sqrtStatus f x ≡ OK)
-  pub of-minus-infinity : (x : ℕ) → kind f x ≡ infinite → minus f x ≡ true → (sqrtIn f a x ≡ canonical f) × (sqrtStatus f x ≡ INVALID)
-  pub of-zero : (x : ℕ) → Pattern f x → kind f x ≡ finite 0 → (sqrtIn f a x ≡ x) × (sqrtStatus f x ≡ OK)
-  pub of-minus : (x u : ℕ) → kind f x ≡ finite (suc u) → minus f x ≡ true → (sqrtIn f a x ≡ canonical f) × (sqrtStatus f x ≡ INVALID)
-  pub of-plus : (x u : ℕ) → kind f x ≡ finite (suc u) → minus f x ≡ false → sqrtStatus f x ≡ OK
-
-pub sqrt-rows : (f : Format) (a : Attribute) → SqrtRows f a
+pub sqrt-rows : (f : Format) (a : Attribute) → SqrtRows f (sqrtIn f a) (sqrtStatus f)
 unfolding sqrtBy sqrtStatusBy
 sqrt-rows f a =
     record {

@@ -12,35 +12,16 @@ use borrow.Author.Tests.{eq-eqb, ne-eqb}
 use Rattle.algebra.proofs.Products.{times, mul-lt-cancel}
 use Rattle.algebra.proofs.Quotients.{div-mod, div-is}
 use Rattle.algebra.proofs.Integers.{up, dn, addZ, negZ, timesZ, eqZ, leZ-fact, ltZ-fact, leZ-of, ltZ-of}
-use Rattle.ieee.specs.Format.{Format, Fair, low, inf, canonical, units}
+use Rattle.ieee.specs.Format.{Format, Fair, low, units}
 use Rattle.ieee.specs.Pattern.{Pattern, minus, magnitude, signed, Kind, nan, infinite, finite, kind, withSign, value}
 use Rattle.ieee.specs.Round.{longer, Attribute, toward-zero, toward-negative, wayOf}
 use Rattle.ieee.specs.Whole.{whole, wholeIn, truncOf, floorOf}
+use Rattle.ieee.specs.WholeRule.{Truncated, Floored, WholeRows, FloorRows}
 use Rattle.ieee.proofs.Units.{units-inj}
 use Rattle.ieee.proofs.Decide.{split, eqb-reads}
 use Rattle.ieee.proofs.Patterns.{same-pattern, finite-is, value-is}
 use Rattle.ieee.proofs.Signs.{signed-times, value-tells}
 use Rattle.ieee.proofs.WholeParts.{whole-multiple, sent-value, wholeIn-sent, wholeIn-none, nan-canonical, infinity-stays, zero-stays, whole-pattern}
-
--- r is x cut to a whole number of ones: |k| ≤ |x| < |k| + 1 with the sign kept, and nothing rounded
-pub record Truncated (f : Format) (x r : ℕ) : Type 0 where
-  pub k : ℕ
-  pub pattern : Pattern f r
-  pub finite : magnitude f r < inf f
-  pub counts : units f (magnitude f r) ≡ k * 2 ^ low f
-  pub least : k * 2 ^ low f ≤ units f (magnitude f x)
-  pub most : units f (magnitude f x) < suc k * 2 ^ low f
-  pub sign : minus f r ≡ minus f x
-
--- r is the greatest whole number of ones not above x: k ≤ x < k + 1
-pub record Floored (f : Format) (x r : ℕ) : Type 0 where
-  pub k : ℤ
-  pub pattern : Pattern f r
-  pub finite : magnitude f r < inf f
-  pub counts : value f r ≡ k *ℤ pos (2 ^ low f)
-  pub least : (k *ℤ pos (2 ^ low f)) ≤ℤ value f x
-  pub most : value f x <ℤ ((k +ℤ pos 1) *ℤ pos (2 ^ low f))
-  pub sign : minus f r ≡ minus f x
 
 -- ---- trunc
 pub trunc-is : (f : Format) → Fair f → (x u : ℕ) → kind f x ≡ finite u → Truncated f x (truncOf f x)
@@ -129,12 +110,6 @@ floor-only f x r q a b =
     let k = eqZ (a .k) (b .k) (omega arith) in
     value-only f r q (a .pattern) (b .pattern) (a .sign ∙ sym (b .sign)) (a .counts ∙ ap (λ n. n *ℤ pos (2 ^ low f)) k ∙ sym (b .counts))
 
--- ---- rows: what the operation o makes of NaNs, infinities and zeros
-pub record WholeRows (f : Format) (o : ℕ → ℕ) : Type 0 where
-  pub of-nan : (x : ℕ) → kind f x ≡ nan → o x ≡ canonical f
-  pub of-infinity : (x : ℕ) → kind f x ≡ infinite → o x ≡ x
-  pub of-zero : (x : ℕ) → Pattern f x → kind f x ≡ finite 0 → o x ≡ x
-
 wholeIn-rows : (f : Format) (a : Attribute) → WholeRows f (wholeIn f a)
 wholeIn-rows f a = record { of-nan = nan-canonical f a; of-infinity = infinity-stays f a; of-zero = zero-stays f a }
 
@@ -177,13 +152,7 @@ floor-below-zero f g x u h p l s =
     let o = times (2 ^ low f) (longer-one u (2 ^ low f) p l) ∙ one-mul (2 ^ low f) in
     v ∙ (λ i. withSign (s i) (whole (wayOf toward-negative (s i)) (e i) (2 ^ low f) * 2 ^ low f)) ∙ ap (λ n. negℤ (pos n)) o
 
--- ---- floor has two rows more: a value in (0, 1) gives +0, and a value in (-1, 0) gives -1
-pub record FloorRows (f : Format) : Type 0 where
-  pub rows : WholeRows f (floorOf f)
-  pub above-zero : (x u : ℕ) → kind f x ≡ finite u → u < 2 ^ low f → minus f x ≡ false → floorOf f x ≡ 0
-  pub below-zero : (x u : ℕ) → kind f x ≡ finite u → 0 < u → u < 2 ^ low f → minus f x ≡ true → value f (floorOf f x) ≡ negℤ (pos (2 ^ low f))
-
-pub floor-rows : (f : Format) → Fair f → FloorRows f
+pub floor-rows : (f : Format) → Fair f → FloorRows f (floorOf f)
 floor-rows f g = record { rows = floor-whole-rows f; above-zero = floor-above-zero f; below-zero = floor-below-zero f g }
 
 -- ---- what stays under one attribute stays under every other

@@ -4,7 +4,7 @@ use mathlib.Core.Path.{_≡_}
 use mathlib.Core.Bool.{true, false}
 use Rattle.ieee.specs.Format.{Format, b64, b32, bias, low, units, canonical}
 use Rattle.ieee.specs.Rule.{halfway}
-use Rattle.ieee.specs.Flags.{none, onlyInvalid, onlyInexact, judged, wordOf}
+use Rattle.ieee.specs.Flags.{none, onlyInvalid, onlyInexact, judged, wordOf, largest, leastNormal}
 use Rattle.ieee.specs.Status.{OK, INVALID, INEXACT}
 use Rattle.ieee.specs.Reduction.{shiftLimit, divisorLimit}
 use Rattle.ieee.specs.Lists.{listLimit}
@@ -36,6 +36,13 @@ pub record FlagNumbers : Type 0 where
   pub overflow : wordOf (judged true false true) ≡ 8 + 32
   pub underflow : wordOf (judged false true true) ≡ 16 + 32
   pub inexact : wordOf (onlyInexact true) ≡ 32
+
+-- the ends that flags are judged by: the largest finite number and the least normal one, as patterns
+pub record Ends : Type 0 where
+  pub largest64 : largest b64 ≡ 0x7fefffffffffffff
+  pub normal64 : leastNormal b64 ≡ 0x0010000000000000
+  pub largest32 : largest b32 ≡ 0x7f7fffff
+  pub normal32 : leastNormal b32 ≡ 0x00800000
 
 -- places of a list; the divisor and the shift of a reduction
 pub record Limits : Type 0 where

@@ -1,7 +1,12 @@
 -- The promise, theorem by theorem, in reading order; each cites its proof. Assumes nothing.
 --
--- A heading is a demand, in the words of README.md. A theorem is about a definition of crates/ieee/specs, over every fair format; the line "code" above it names the
--- functions whose contracts are equations with that definition, at 64 and 32 bits.
+-- A heading is a demand, in the words of README.md. A theorem is about definitions of crates/ieee/specs, over every fair format, and what its statement is made of
+-- stands in a specs folder. The line "code" above it says of which functions it speaks; tests/theorems holds these lines to the sources.
+--   code: NAMES         it settles what these functions answer: their contracts are equations with definitions that it names, at 64 and 32 bits. Each function of the
+--                       library's face, C functions included, stands in one such line alone; CRATE::NAME is a function inside the library.
+--   code: as THEOREMS   it says more of the definitions that those theorems settle, and so of their functions.
+--   code: none, WHY     it speaks of no function.
+-- The first two may stand in one line, names first.
 use Prim.Native.Nat.{ℕ, suc, _+_, _-_, _*_, _^_, _<_}
 use mathlib.Core.Path.{_≡_}
 use mathlib.Core.Logic.{_↔_}
@@ -12,53 +17,66 @@ use lib.Dec.{eqb, lit<}
 use lib.IntN.{ℤ}
 use lib.Ieee.{binary64, binary32}
 use Rattle.ieee.specs.Format.{Format, b64, b32, b16, inf, canonical, units, Fair}
-use Rattle.ieee.specs.Pattern.{minus, magnitude, nan, finite, kind}
+use Rattle.ieee.specs.Pattern.{Pattern, minus, magnitude, nan, finite, kind}
 use Rattle.ieee.specs.Exact.{Value, absolute}
 use Rattle.ieee.specs.Round.{Way, Attribute, ties-to-even, toward-positive, toward-negative, answer}
 use Rattle.ieee.specs.Rule.{Ties, to-even, tiesAttribute, Once, RuleIn}
 use Rattle.ieee.specs.Flags.{Flags, signals, raised}
+use Rattle.ieee.specs.Only.{Only, OnlyFlags}
 use Rattle.ieee.specs.FlagsRule.{FlagsRule, Clean, Unbounded}
 use Rattle.ieee.specs.FlagRows.{SqrtFlagRows, FmaFlagRows, ScalbnFlagRows, WholeFlagRows}
 use Rattle.ieee.specs.Band.{Band}
 use Rattle.ieee.specs.Rounded.{sqrtRounded, fmaRounded, scalbnRounded, ByNumber}
 use Rattle.ieee.specs.Sqrt.{sqrtOf, sqrtStatus, sqrtIn, sqrtFlagsIn, exactSqrt}
+use Rattle.ieee.specs.SqrtRows.{SqrtRows}
 use Rattle.ieee.specs.Fma.{fmaOf, fmaIn, fmaFlagsIn, exactFma, zeroSign}
+use Rattle.ieee.specs.FmaRows.{FmaRows}
 use Rattle.ieee.specs.Scalbn.{scalbnOf, scalbnIn, scalbnFlagsIn, exactScalbn}
+use Rattle.ieee.specs.ScalbnRows.{ScalbnRows}
 use Rattle.ieee.specs.Whole.{truncOf, truncStatus, truncFlags, floorOf, floorStatus, floorFlags, wholeFlagsIn}
+use Rattle.ieee.specs.WholeRule.{Truncated, Floored, WholeRows, FloorRows}
 use Rattle.ieee.specs.StatusRows.{WholeStatusRows}
 use Rattle.ieee.specs.Fmod.{fmodOf}
+use Rattle.ieee.specs.FmodRule.{Left, FmodRows}
 use Rattle.ieee.specs.Remquo.{remquoOf, quotientOf}
+use Rattle.ieee.specs.RemquoRule.{NearestLeft, RemquoRows}
 use Rattle.ieee.specs.Refusal.{Refusal, given, Answer, numberOf, valueOf}
+use Rattle.ieee.specs.RefusalRule.{First, None, Absent}
 use Rattle.ieee.specs.Reduction.{reduceOf}
+use Rattle.ieee.specs.ReductionRule.{ReducedAs}
 use Rattle.ieee.specs.Lists.{listLimit, Listed, listOf}
-use Rattle.ieee.specs.Numbers.{Numbers64, Numbers32, Statuses, FlagNumbers, Limits}
+use Rattle.ieee.specs.ListRule.{ListedAs}
+use Rattle.ieee.specs.Numbers.{Numbers64, Numbers32, Statuses, FlagNumbers, Ends, Limits}
 use Rattle.ieee.specs.Cases.{Cases}
 use Rattle.ieee.specs.FlagCases.{FlagCases}
-use Rattle.ieee.proofs.Formats.{fair64, fair32, numbers64, numbers32, statuses, flag-numbers, limits}
+use Rattle.ieee.specs.Lazy.{Lazy64, Lazy32}
+use Rattle.ieee.proofs.Formats.{fair64, fair32, numbers64, numbers32, statuses, flag-numbers, ends, limits}
 use Rattle.ieee.proofs.Patterns.{finite-is}
-use Rattle.ieee.proofs.Refusals.{First, None, Absent, given-first, given-none}
+use Rattle.ieee.proofs.Refusals.{given-first, given-none}
 use Rattle.ieee.proofs.Answers.{once-unique}
 use Rattle.ieee.proofs.Attributes.{answer-met-unique}
 use Rattle.ieee.proofs.Raised.{nearest-overflow, rule-one}
 use Rattle.ieee.proofs.Unbounded.{unbounded}
 use Rattle.ieee.proofs.Signals.{signalling}
-use Rattle.ieee.proofs.Sqrts.{SqrtRows, sqrt-once, sqrt-met, sqrt-rows}
+use Rattle.ieee.proofs.Sqrts.{sqrt-once, sqrt-met, sqrt-rows}
 use Rattle.ieee.proofs.SqrtFlags.{sqrt-flags-rule, sqrt-flag-rows, sqrt-clean, sqrt-no-overflow, sqrt-no-underflow, sqrt-band}
-use Rattle.ieee.proofs.Fmas.{FmaRows, fma-once, fma-met, fma-rows}
+use Rattle.ieee.proofs.Fmas.{fma-once, fma-met, fma-rows}
 use Rattle.ieee.proofs.FmaFlags.{fma-flags-rule, fma-flag-rows, fma-clean, fma-band}
-use Rattle.ieee.proofs.Scalbns.{ScalbnRows, scalbn-once, scalbn-met, scalbn-rows}
+use Rattle.ieee.proofs.Scalbns.{scalbn-once, scalbn-met, scalbn-rows}
 use Rattle.ieee.proofs.ScalbnFlags.{scalbn-flags-rule, scalbn-flag-rows, scalbn-clean, scalbn-band}
 use Rattle.ieee.proofs.RoundedCalls.{sqrt-by-number, fma-by-number, scalbn-by-number}
-use Rattle.ieee.proofs.Wholes.{Truncated, Floored, WholeRows, FloorRows, trunc-is, trunc-only, trunc-rows, floor-is, floor-only, floor-rows}
+use Rattle.ieee.proofs.Wholes.{trunc-is, trunc-only, trunc-rows, floor-is, floor-only, floor-rows}
 use Rattle.ieee.proofs.WholeFlags.{whole-clean, trunc-flag-rows, floor-flag-rows}
 use Rattle.ieee.proofs.WholeStatuses.{trunc-status-rows, floor-status-rows}
-use Rattle.ieee.proofs.Remainders.{Left, FmodRows, fmod-is, fmod-only, fmod-rows}
-use Rattle.ieee.proofs.Remquos.{NearestLeft, RemquoRows, remquo-is, remquo-only, remquo-rows}
-use Rattle.ieee.proofs.Reductions.{ReducedAs, reduction-is, reduction-only}
-use Rattle.ieee.proofs.ListCalls.{ListedAs, list-of-is, list-only}
+use Rattle.ieee.proofs.Remainders.{fmod-is, fmod-only, fmod-rows}
+use Rattle.ieee.proofs.Remquos.{remquo-is, remquo-only, remquo-rows}
+use Rattle.ieee.proofs.Reductions.{reduction-is, reduction-only}
+use Rattle.ieee.proofs.ListCalls.{list-of-is, list-only}
+use Rattle.ieee.proofs.Settled.{sqrt-settled, fma-settled, scalbn-settled, floor-settled, trunc-settled, whole-status-settled, fmod-settled, remquo-settled}
+use Rattle.ieee.proofs.FlagsSettled.{sqrt-flags-settled, fma-flags-settled, scalbn-flags-settled, whole-flags-settled}
 use Rattle.ieee.proofs.Cases.{cases}
 use Rattle.ieee.proofs.FlagCases.{flag-cases}
-use Rattle.ieee.proofs.Lazy.{Lazy, lazy}
+use Rattle.ieee.proofs.Lazy.{lazy64, lazy32}
 use Rattle.agreement.specs.Agrees.{Agrees}
 use Rattle.agreement.proofs.Agreement.{agrees}
 use Rattle.reciprocals.specs.Table.{entryOf, Serves}
@@ -67,51 +85,55 @@ use Rattle.roots.specs.Floor.{FloorRoot}
 use Rattle.table_root.specs.Residual.{Residual, floorBy, exactBy}
 use Rattle.table_root.proofs.Wholes.{alike}
 
--- r meets a rule, and nothing else does
-abbrev pub Only : (ℕ → Type 0) → ℕ → Type 0
-Only P r = P r × ((q : ℕ) → P q → q ≡ r)
-
--- flags meet a rule, and no others do
-abbrev pub OnlyFlags : (Flags → Type 0) → Flags → Type 0
-OnlyFlags P F = P F × ((G : Flags) → P G → G ≡ F)
-
 -- ======== What is spoken of
+-- code: none, the formats
 -- both widths are fair formats, so that each theorem below holds at both
 pub both-widths-are-fair : Fair b64 × Fair b32
 both-widths-are-fair = (fair64, fair32)
 
+-- code: none, the numbers
 -- their numbers, the statuses and the limits
 pub numbers-are-as-given : Numbers64 × Numbers32 × Statuses × Limits
 numbers-are-as-given = (numbers64, numbers32, statuses, limits)
 
 -- ======== 1. Every pattern is answered. What cannot be answered is refused by a number, the first that applies, and a refusal changes nothing.
+-- code: as sqrt-is-settled
 -- what every operation gives for NaNs, infinities and zeros, sqrt with its status, row by row
-pub sqrt-by-rows : (f : Format) → SqrtRows f ties-to-even
+pub sqrt-by-rows : (f : Format) → SqrtRows f (sqrtOf f) (sqrtStatus f)
+unfolding sqrtOf
 sqrt-by-rows f = sqrt-rows f ties-to-even
 
-pub fma-by-rows : (f : Format) (x y z : ℕ) → FmaRows f ties-to-even x y z
+-- code: as fma-is-settled
+pub fma-by-rows : (f : Format) (x y z : ℕ) → FmaRows f ties-to-even x y z (fmaOf f x y z)
+unfolding fmaOf
 fma-by-rows f x y z = fma-rows f ties-to-even x y z
 
-pub scalbn-by-rows : (f : Format) → Fair f → (x : ℕ) (n : ℤ) → ScalbnRows f ties-to-even x n
+-- code: as scalbn-is-settled
+pub scalbn-by-rows : (f : Format) → Fair f → (x : ℕ) (n : ℤ) → ScalbnRows f x n (scalbnOf f x n)
+unfolding scalbnOf
 scalbn-by-rows f g x n = scalbn-rows f g ties-to-even x n
 
-pub fmod-by-rows : (f : Format) → FmodRows f
+-- code: as fmod-is-settled
+pub fmod-by-rows : (f : Format) → FmodRows f (fmodOf f)
 fmod-by-rows f = fmod-rows f
 
-pub remquo-by-rows : (f : Format) → RemquoRows f
+-- code: as remquo-is-settled
+pub remquo-by-rows : (f : Format) → RemquoRows f (remquoOf f) (quotientOf f)
 remquo-by-rows f = remquo-rows f
 
-pub floor-by-rows : (f : Format) → Fair f → FloorRows f
+-- code: as floor-is-settled
+pub floor-by-rows : (f : Format) → Fair f → FloorRows f (floorOf f)
 floor-by-rows f g = floor-rows f g
 
+-- code: as trunc-is-settled
 pub trunc-by-rows : (f : Format) → WholeRows f (truncOf f)
 trunc-by-rows f = trunc-rows f
 
+-- code: as sqrt-is-settled, fma-is-settled, fmod-is-settled, remquo-is-settled, scalbn-is-settled, floor-is-settled, trunc-is-settled
 -- a NaN among the operands gives the canonical NaN, in all seven operations
 pub every-nan-is-canonical : (f : Format) → Fair f → (x y z : ℕ) (n : ℤ) → kind f x ≡ nan
     → (sqrtOf f x ≡ canonical f) × (fmaOf f x y z ≡ canonical f) × (fmaOf f y x z ≡ canonical f) × (fmaOf f y z x ≡ canonical f) × (fmodOf f x y ≡ canonical f) × (fmodOf f y x ≡ canonical f)
     × (remquoOf f x y ≡ canonical f) × (remquoOf f y x ≡ canonical f) × (scalbnOf f x n ≡ canonical f) × (floorOf f x ≡ canonical f) × (truncOf f x ≡ canonical f)
-unfolding sqrtOf fmaOf scalbnOf
 every-nan-is-canonical f g x y z n h = (
   sqrt-by-rows f .of-nan x h .0,
   fma-by-rows f x y z .nan-first h,
@@ -126,50 +148,53 @@ every-nan-is-canonical f g x y z n h = (
   trunc-by-rows f .of-nan x h,
 )
 
+-- code: none, any list of refusals
 -- of any list of refusals, a number is given exactly when its reason holds and none before it does
 pub refusals-go-by-number : (rs : List Refusal) (k : ℕ) → 0 < k → (given rs ≡ k) ↔ First rs k
 refusals-go-by-number rs k p = given-first rs k p
 
+-- code: none, any list of refusals
 pub nothing-else-is-refused : (rs : List Refusal) → Absent 0 rs → (given rs ≡ 0) ↔ None rs
 nothing-else-is-refused rs a = given-none rs a
 
--- code: list64 (crates/lists), pk_list64
+-- code: list64, pk_list64
 -- the number, the value 0, and the output: as it was where the list is refused, and else every place settled from the same place; and only so
 pub list-call-is-settled : (f : Format) (op : ℕ) (xs ys : List ℕ) → ListedAs f listLimit op xs ys (listOf f op xs ys)
     × ((l : Listed) → ListedAs f listLimit op xs ys l → (numberOf (l .answer) ≡ numberOf (listOf f op xs ys .answer)) × (valueOf (l .answer) ≡ valueOf (listOf f op xs ys .answer)) × (l .output ≡ listOf f op xs ys .output))
 list-call-is-settled f op xs ys = (list-of-is f op xs ys, λ l a. list-only f listLimit op xs ys l (listOf f op xs ys) a (list-of-is f op xs ys))
 
--- code: reduce64, reduce32, plain64, plain32 (crates/reduction), refusal64, refusal32 (crates/refusals)
+-- code: reduce64, reduce32, refusal64, refusal32, pk_reduce64, pk_reduce32, pk_reduce64_refusal, pk_reduce32_refusal
 -- the number, and the value: what is left of x 2 ^ e by y, or 0 where it is refused; and only so
 pub reduction-is-settled : (w x e y : ℕ) → ReducedAs w x e y (reduceOf w x e y)
     × ((a : Answer) → ReducedAs w x e y a → (numberOf a ≡ numberOf (reduceOf w x e y)) × (valueOf a ≡ valueOf (reduceOf w x e y)))
 reduction-is-settled w x e y = (reduction-is w x e y, λ a h. reduction-only a (reduceOf w x e y) h (reduction-is w x e y))
 
 -- ======== 2. What is exact is exact: fmod, remquo, floor, trunc and the reduction lose nothing, signs of zero included.
--- code: floor64, floor32 (crates/floor)
+-- code: as floor-is-settled
 -- the whole k with k ≤ x < k + 1, nothing rounded, the sign kept; and no other pattern
 pub floor-is-exact : (f : Format) → Fair f → (x u : ℕ) → kind f x ≡ finite u → Only (Floored f x) (floorOf f x)
 floor-is-exact f g x u h = (floor-is f g x u h, λ q a. floor-only f x q (floorOf f x) a (floor-is f g x u h))
 
--- code: trunc64, trunc32 (crates/trunc)
+-- code: as trunc-is-settled
 -- the whole k with |k| ≤ |x| < |k| + 1, the sign kept; and no other pattern
 pub trunc-is-exact : (f : Format) → Fair f → (x u : ℕ) → kind f x ≡ finite u → Only (Truncated f x) (truncOf f x)
 trunc-is-exact f g x u h = (trunc-is f g x u h, λ q a. trunc-only f x q (truncOf f x) a (trunc-is f g x u h))
 
--- code: floor64_status, floor32_status (crates/floor), trunc64_status, trunc32_status (crates/trunc)
+-- code: as floor-status-is-settled
 -- their statuses: of a finite operand INEXACT exactly where the answer is another number, and else OK; of an infinity or a NaN always OK
 pub floor-status-tells-change : (f : Format) → Fair f → WholeStatusRows f (floorOf f) (floorStatus f)
 floor-status-tells-change = floor-status-rows
 
+-- code: as trunc-status-is-settled
 pub trunc-status-tells-change : (f : Format) → Fair f → WholeStatusRows f (truncOf f) (truncStatus f)
 trunc-status-tells-change = trunc-status-rows
 
--- code: fmod64, fmod32 (crates/fmod)
+-- code: as fmod-is-settled
 -- |x| = n |y| + |r| with |r| < |y|, the sign of x; and no other pattern
 pub fmod-is-exact : (f : Format) (x y u v : ℕ) → kind f x ≡ finite u → kind f y ≡ finite (suc v) → Only (Left f x y) (fmodOf f x y)
 fmod-is-exact f x y u v h k = (fmod-is f x y u v h k, λ q a. fmod-only f x y q (fmodOf f x y) a (fmod-is f x y u v h k))
 
--- code: remquo64 (crates/remquo)
+-- code: as remquo-is-settled
 -- x = n y + r with 2|r| ≤ |y|, n even where they are equal, a zero with the sign of x, the quotient n modulo 2 ^ 31 with n's sign; and no other pattern or quotient
 pub remquo-is-exact : (f : Format) (x y u v : ℕ) → kind f x ≡ finite u → kind f y ≡ finite (suc v) → NearestLeft f x y (remquoOf f x y) (quotientOf f x y)
     × ((r : ℕ) (q : ℤ) → NearestLeft f x y r q → (r ≡ remquoOf f x y) × (q ≡ quotientOf f x y))
@@ -180,14 +205,14 @@ remquo-is-exact f x y u v h k =
 
 -- ======== 3. sqrt, fma and scalbn are the exact value rounded once: no finite number is nearer, a tie takes the even last bit, infinity from the halfway point on; exactly one pattern meets that rule.
 -- the rule is Once (crates/ieee/specs/Rule.antt), over whole numbers of smallest units
--- code: sqrt64, sqrt32 (crates/root)
+-- code: as sqrt-is-settled
 -- for a finite x that is not below zero, the exact root
 pub sqrt-rounds-once : (f : Format) → Fair f → (x u : ℕ) → kind f x ≡ finite u → (minus f x ≡ true → u ≡ 0) → Only (Once f to-even (minus f x) (exactSqrt f x)) (sqrtOf f x)
 sqrt-rounds-once f g x u h z =
     let o = sqrt-once f g x u h z in
     (o, λ q a. once-unique f g to-even (minus f x) (exactSqrt f x) q (sqrtOf f x) a o)
 
--- code: fma64, fma32 (crates/fma)
+-- code: as fma-is-settled
 -- for finite x, y and z, exactly x y + z
 pub fma-rounds-once : (f : Format) → Fair f → (x y z u v w : ℕ) → kind f x ≡ finite u → kind f y ≡ finite v → kind f z ≡ finite w
     → Only (Once f to-even (zeroSign f ties-to-even x y z) (exactFma f x y z)) (fmaOf f x y z)
@@ -195,14 +220,62 @@ fma-rounds-once f g x y z u v w h k l =
     let o = fma-once f g x y z u v w h k l in
     (o, λ q a. once-unique f g to-even (zeroSign f ties-to-even x y z) (exactFma f x y z) q (fmaOf f x y z) a o)
 
--- code: scalbn64, scalbn32 (crates/scale)
+-- code: as scalbn-is-settled
 -- for a finite x and every n, exactly x times 2 ^ n
 pub scalbn-rounds-once : (f : Format) → Fair f → (x u : ℕ) (n : ℤ) → kind f x ≡ finite u → Only (Once f to-even (minus f x) (exactScalbn f x n)) (scalbnOf f x n)
 scalbn-rounds-once f g x u n h =
     let o = scalbn-once f g x u n h in
     (o, λ q a. once-unique f g to-even (minus f x) (exactScalbn f x n) q (scalbnOf f x n) a o)
 
+-- ======== Nothing is left open: for every pattern, whatever meets the rows, and for numbers the rule, is the answer.
+-- code: sqrt64, sqrt32, sqrt64_status, sqrt32_status, pk_sqrt64, pk_sqrt32, pk_sqrt64_status, pk_sqrt32_status
+pub sqrt-is-settled : (f : Format) → Fair f → (o s : ℕ → ℕ) → SqrtRows f o s
+    → ((x u : ℕ) → kind f x ≡ finite u → (minus f x ≡ true → u ≡ 0) → Once f to-even (minus f x) (exactSqrt f x) (o x))
+    → (x : ℕ) → Pattern f x → (o x ≡ sqrtOf f x) × (s x ≡ sqrtStatus f x)
+unfolding sqrtOf
+sqrt-is-settled f g o s rows rule x p = sqrt-settled f g ties-to-even o s rows rule x p
+
+-- code: fma64, fma32, pk_fma64, pk_fma32
+pub fma-is-settled : (f : Format) → Fair f → (x y z r : ℕ) → FmaRows f ties-to-even x y z r
+    → ((u v w : ℕ) → kind f x ≡ finite u → kind f y ≡ finite v → kind f z ≡ finite w → Once f to-even (zeroSign f ties-to-even x y z) (exactFma f x y z) r)
+    → Pattern f z → r ≡ fmaOf f x y z
+unfolding fmaOf
+fma-is-settled f g x y z r rows rule p = fma-settled f g ties-to-even x y z r rows rule p
+
+-- code: scalbn64, scalbn32, pk_scalbn64, pk_scalbn32
+pub scalbn-is-settled : (f : Format) → Fair f → (x : ℕ) (n : ℤ) (r : ℕ) → ScalbnRows f x n r
+    → ((u : ℕ) → kind f x ≡ finite u → Once f to-even (minus f x) (exactScalbn f x n) r) → r ≡ scalbnOf f x n
+unfolding scalbnOf
+scalbn-is-settled f g x n r rows rule = scalbn-settled f g ties-to-even x n r rows rule
+
+-- code: floor64, floor32, pk_floor64, pk_floor32
+pub floor-is-settled : (f : Format) → Fair f → (o : ℕ → ℕ) → FloorRows f o → ((x u : ℕ) → kind f x ≡ finite u → Floored f x (o x)) → (x : ℕ) → o x ≡ floorOf f x
+floor-is-settled = floor-settled
+
+-- code: trunc64, trunc32, pk_trunc64, pk_trunc32
+pub trunc-is-settled : (f : Format) → Fair f → (o : ℕ → ℕ) → WholeRows f o → ((x u : ℕ) → kind f x ≡ finite u → Truncated f x (o x)) → (x : ℕ) → o x ≡ truncOf f x
+trunc-is-settled = trunc-settled
+
+-- code: floor64_status, floor32_status, pk_floor64_status, pk_floor32_status
+pub floor-status-is-settled : (f : Format) → Fair f → (s : ℕ → ℕ) → WholeStatusRows f (floorOf f) s → (x : ℕ) → s x ≡ floorStatus f x
+floor-status-is-settled f g s rows = whole-status-settled f (floorOf f) s (floorStatus f) rows (floor-status-rows f g)
+
+-- code: trunc64_status, trunc32_status, pk_trunc64_status, pk_trunc32_status
+pub trunc-status-is-settled : (f : Format) → Fair f → (s : ℕ → ℕ) → WholeStatusRows f (truncOf f) s → (x : ℕ) → s x ≡ truncStatus f x
+trunc-status-is-settled f g s rows = whole-status-settled f (truncOf f) s (truncStatus f) rows (trunc-status-rows f g)
+
+-- code: fmod64, fmod32, pk_fmod64, pk_fmod32
+pub fmod-is-settled : (f : Format) (o : ℕ → ℕ → ℕ) → FmodRows f o
+    → ((x y u v : ℕ) → kind f x ≡ finite u → kind f y ≡ finite (suc v) → Left f x y (o x y)) → (x y : ℕ) → o x y ≡ fmodOf f x y
+fmod-is-settled = fmod-settled
+
+-- code: remquo64, pk_remquo64, pk_remquo64_quotient
+pub remquo-is-settled : (f : Format) (o : ℕ → ℕ → ℕ) (n : ℕ → ℕ → ℤ) → RemquoRows f o n
+    → ((x y u v : ℕ) → kind f x ≡ finite u → kind f y ≡ finite (suc v) → NearestLeft f x y (o x y) (n x y)) → (x y : ℕ) → (o x y ≡ remquoOf f x y) × (n x y ≡ quotientOf f x y)
+remquo-is-settled = remquo-settled
+
 -- ======== Under every attribute of IEEE 754: the exact value rounded once by the attribute's rule, with the five flags of clause 7. These are definitions: the functions give nearest even, and a status.
+-- code: none, no function takes an attribute or gives flags
 -- the five attributes have numbers, and every other number is refused with 10, the value zero and no flag
 pub attributes-go-by-number : (f : Format) (x y z : ℕ) (n : ℤ)
     → ByNumber (λ a. sqrtIn f a x) (λ a. sqrtFlagsIn f a x) (λ k. sqrtRounded f k x)
@@ -210,9 +283,11 @@ pub attributes-go-by-number : (f : Format) (x y z : ℕ) (n : ℤ)
     × ByNumber (λ a. scalbnIn f a x n) (λ a. scalbnFlagsIn f a x n) (λ k. scalbnRounded f k x n)
 attributes-go-by-number f x y z n = (sqrt-by-number f x, fma-by-number f x y z, scalbn-by-number f x n)
 
-pub flag-numbers-are-as-given : FlagNumbers
-flag-numbers-are-as-given = flag-numbers
+-- code: none, the numbers
+pub flag-numbers-are-as-given : FlagNumbers × Ends
+flag-numbers-are-as-given = (flag-numbers, ends)
 
+-- code: none, no function takes an attribute or gives flags
 -- for finite operands whose answer is not a NaN: the rule of the attribute, which one pattern meets, and the rule of its flags, which one record of flags meets;
 -- inexact exactly when the answer is not the exact value, an infinity never being it
 pub sqrt-by-attribute : (f : Format) → Fair f → (a : Attribute) (x u : ℕ) → kind f x ≡ finite u → (minus f x ≡ true → u ≡ 0)
@@ -225,6 +300,7 @@ sqrt-by-attribute f g a x u h z =
     let e = sqrt-flags-rule f g a x u h z in
     ((m, λ q b. answer-met-unique f g a s v q r b m), (e, λ F b. rule-one f a s v r F (sqrtFlagsIn f a x) b e))
 
+-- code: none, no function takes an attribute or gives flags
 pub fma-by-attribute : (f : Format) → Fair f → (a : Attribute) (x y z u v w : ℕ) → kind f x ≡ finite u → kind f y ≡ finite v → kind f z ≡ finite w
     → Only (RuleIn f a (zeroSign f a x y z) (exactFma f x y z)) (fmaIn f a x y z) × OnlyFlags (FlagsRule f a (zeroSign f a x y z) (exactFma f x y z) (fmaIn f a x y z)) (fmaFlagsIn f a x y z)
 fma-by-attribute f g a x y z u v w h k l =
@@ -235,6 +311,7 @@ fma-by-attribute f g a x y z u v w h k l =
     let e = fma-flags-rule f g a x y z u v w h k l in
     ((m, λ q b. answer-met-unique f g a s t q r b m), (e, λ F b. rule-one f a s t r F (fmaFlagsIn f a x y z) b e))
 
+-- code: none, no function takes an attribute or gives flags
 pub scalbn-by-attribute : (f : Format) → Fair f → (a : Attribute) (x u : ℕ) (n : ℤ) → kind f x ≡ finite u
     → Only (RuleIn f a (minus f x) (exactScalbn f x n)) (scalbnIn f a x n) × OnlyFlags (FlagsRule f a (minus f x) (exactScalbn f x n) (scalbnIn f a x n)) (scalbnFlagsIn f a x n)
 scalbn-by-attribute f g a x u n h =
@@ -245,98 +322,158 @@ scalbn-by-attribute f g a x u n h =
     let e = scalbn-flags-rule f g a x u n h in
     ((m, λ q b. answer-met-unique f g a s v q r b m), (e, λ F b. rule-one f a s v r F (scalbnFlagsIn f a x n) b e))
 
+-- code: none, no function takes an attribute or gives flags
+-- the values' rows of NaNs, infinities and zeros hold under every attribute; a zero sum of unlike signs is -0 when rounding down, and +0 under the others
+pub rows-by-attribute : (f : Format) → Fair f → (a : Attribute) (x y z : ℕ) (n : ℤ)
+    → SqrtRows f (sqrtIn f a) (sqrtStatus f) × FmaRows f a x y z (fmaIn f a x y z) × ScalbnRows f x n (scalbnIn f a x n)
+rows-by-attribute f g a x y z n = (sqrt-rows f a, fma-rows f a x y z, scalbn-rows f g a x n)
+
+-- code: none, no function takes an attribute or gives flags
 -- overflow and tininess are judged as though the exponent range were unbounded: every wider range gives one verdict, and for each value but zero one is wide enough
 pub range-is-unbounded : (f : Format) → Fair f → (w : Way) (v : Value) → Unbounded f w (absolute v)
 range-is-unbounded = unbounded
 
+-- code: none, no function takes an attribute or gives flags
 -- to the nearest, even or away, overflow is raised exactly when the answer is an infinity
 pub nearest-overflows-to-infinity : (f : Format) → Fair f → (t : Ties) (s : Bool) (v : Value)
     → (raised f (tiesAttribute t) s v .overflow ≡ true) ↔ (magnitude f (answer f (tiesAttribute t) s v) ≡ inf f)
 nearest-overflows-to-infinity = nearest-overflow
 
+-- code: none, no function takes an attribute or gives flags
 -- a NaN signals exactly where its magnitude is below that of the canonical NaN
 pub signalling-is-below-the-canonical : (f : Format) → Fair f → (x : ℕ) → (signals f x ≡ true) ↔ ((inf f < magnitude f x) × (magnitude f x < canonical f))
 signalling-is-below-the-canonical = signalling
 
+-- code: none, no function takes an attribute or gives flags
 -- NaNs, infinities and zeros, row by row: when invalid is raised, and that nothing else is
-pub sqrt-flags-by-rows : (f : Format) → Fair f → (a : Attribute) → SqrtFlagRows f a
+pub sqrt-flags-by-rows : (f : Format) → Fair f → (a : Attribute) → SqrtFlagRows f (sqrtFlagsIn f a)
 sqrt-flags-by-rows = sqrt-flag-rows
 
-pub fma-flags-by-rows : (f : Format) (a : Attribute) (x y z : ℕ) → FmaFlagRows f a x y z
+-- code: none, no function takes an attribute or gives flags
+pub fma-flags-by-rows : (f : Format) (a : Attribute) (x y z : ℕ) → FmaFlagRows f x y z (fmaFlagsIn f a x y z)
 fma-flags-by-rows = fma-flag-rows
 
-pub scalbn-flags-by-rows : (f : Format) (a : Attribute) (x : ℕ) (n : ℤ) → ScalbnFlagRows f a x n
+-- code: none, no function takes an attribute or gives flags
+pub scalbn-flags-by-rows : (f : Format) (a : Attribute) (x : ℕ) (n : ℤ) → ScalbnFlagRows f x (scalbnFlagsIn f a x n)
 scalbn-flags-by-rows = scalbn-flag-rows
 
+-- code: none, no function takes an attribute or gives flags
 -- and floor and trunc, inexact exactly where a finite operand is changed
 pub floor-flags-by-rows : (f : Format) → Fair f → WholeFlagRows f (floorOf f) (floorFlags f)
 floor-flags-by-rows = floor-flag-rows
 
+-- code: none, no function takes an attribute or gives flags
 pub trunc-flags-by-rows : (f : Format) → Fair f → WholeFlagRows f (truncOf f) (truncFlags f)
 trunc-flags-by-rows = trunc-flag-rows
 
+-- code: none, no function takes an attribute or gives flags
+-- nothing is left open here either: whatever meets the rows, and for numbers the rules, is the answer with its flags
+pub sqrt-settled-by-attribute : (f : Format) → Fair f → (a : Attribute) (o s : ℕ → ℕ) (F : ℕ → Flags) → SqrtRows f o s → SqrtFlagRows f F
+    → ((x u : ℕ) → kind f x ≡ finite u → (minus f x ≡ true → u ≡ 0) → RuleIn f a (minus f x) (exactSqrt f x) (o x) × FlagsRule f a (minus f x) (exactSqrt f x) (sqrtIn f a x) (F x))
+    → (x : ℕ) → Pattern f x → (o x ≡ sqrtIn f a x) × (F x ≡ sqrtFlagsIn f a x)
+sqrt-settled-by-attribute f g a o s F rows flags rules x p = (
+  sqrt-settled f g a o s rows (λ y u h z. rules y u h z .0) x p .0,
+  sqrt-flags-settled f g a F flags (λ y u h z. rules y u h z .1) x,
+)
+
+-- code: none, no function takes an attribute or gives flags
+pub fma-settled-by-attribute : (f : Format) → Fair f → (a : Attribute) (x y z r : ℕ) (F : Flags) → FmaRows f a x y z r → FmaFlagRows f x y z F
+    → ((u v w : ℕ) → kind f x ≡ finite u → kind f y ≡ finite v → kind f z ≡ finite w
+    → RuleIn f a (zeroSign f a x y z) (exactFma f x y z) r × FlagsRule f a (zeroSign f a x y z) (exactFma f x y z) (fmaIn f a x y z) F)
+    → Pattern f z → (r ≡ fmaIn f a x y z) × (F ≡ fmaFlagsIn f a x y z)
+fma-settled-by-attribute f g a x y z r F rows flags rules p = (
+  fma-settled f g a x y z r rows (λ u v w h k l. rules u v w h k l .0) p,
+  fma-flags-settled f g a x y z F flags (λ u v w h k l. rules u v w h k l .1),
+)
+
+-- code: none, no function takes an attribute or gives flags
+pub scalbn-settled-by-attribute : (f : Format) → Fair f → (a : Attribute) (x : ℕ) (n : ℤ) (r : ℕ) (F : Flags) → ScalbnRows f x n r → ScalbnFlagRows f x F
+    → ((u : ℕ) → kind f x ≡ finite u → RuleIn f a (minus f x) (exactScalbn f x n) r × FlagsRule f a (minus f x) (exactScalbn f x n) (scalbnIn f a x n) F)
+    → (r ≡ scalbnIn f a x n) × (F ≡ scalbnFlagsIn f a x n)
+scalbn-settled-by-attribute f g a x n r F rows flags rules = (
+  scalbn-settled f g a x n r rows (λ u h. rules u h .0),
+  scalbn-flags-settled f g a x n F flags (λ u h. rules u h .1),
+)
+
+-- code: none, no function takes an attribute or gives flags
+-- and one function of patterns has the flags of floor, and one those of trunc
+pub whole-flags-are-settled : (f : Format) (o : ℕ → ℕ) (F G : ℕ → Flags) → WholeFlagRows f o F → WholeFlagRows f o G → (x : ℕ) → F x ≡ G x
+whole-flags-are-settled = whole-flags-settled
+
+-- code: none, no function takes an attribute or gives flags
 -- whatever the operands: overflow and underflow imply inexact, invalid stands alone, division by zero never
 pub flags-are-clean : (f : Format) → Fair f → (a : Attribute) (x y z : ℕ) (n : ℤ)
     → Clean (sqrtFlagsIn f a x) × Clean (fmaFlagsIn f a x y z) × Clean (scalbnFlagsIn f a x n) × Clean (wholeFlagsIn f a x)
 flags-are-clean f g a x y z n = (sqrt-clean f g a x, fma-clean f g a x y z, scalbn-clean f g a x n, whole-clean f a x)
 
+-- code: none, no function takes an attribute or gives flags
 -- a root never overflows; nor does it underflow, in a format with one exponent more below 1 than a fair one must have, as b16, b32 and b64 have
 pub sqrt-never-overflows : (f : Format) → Fair f → (a : Attribute) (x : ℕ) → sqrtFlagsIn f a x .overflow ≡ false
 sqrt-never-overflows = sqrt-no-overflow
 
+-- code: none, no function takes an attribute or gives flags
 pub sqrt-never-underflows : (f : Format) → Fair f → (a : Attribute) (x : ℕ) → f .frac + 1 < 2 ^ (f .expo - 1) → sqrtFlagsIn f a x .underflow ≡ false
 sqrt-never-underflows = sqrt-no-underflow
 
+-- code: none, the formats
 pub standard-formats-have-room : (b16 .frac + 1 < 2 ^ (b16 .expo - 1)) × (b32 .frac + 1 < 2 ^ (b32 .expo - 1)) × (b64 .frac + 1 < 2 ^ (b64 .expo - 1))
 standard-formats-have-room = (lit< tt, lit< tt, lit< tt)
 
+-- code: none, no function takes an attribute or gives flags
 -- tolerance bands: down and up hold the exact value between them, none is tighter, and the two are one number exactly when nothing is inexact
 pub sqrt-has-a-band : (f : Format) → Fair f → (x u : ℕ) → kind f x ≡ finite u → (minus f x ≡ true → u ≡ 0)
     → Band f (exactSqrt f x) (sqrtIn f toward-negative x) (sqrtIn f toward-positive x) (sqrtFlagsIn f toward-negative x) (sqrtFlagsIn f toward-positive x)
 sqrt-has-a-band = sqrt-band
 
+-- code: none, no function takes an attribute or gives flags
 pub fma-has-a-band : (f : Format) → Fair f → (x y z u v w : ℕ) → kind f x ≡ finite u → kind f y ≡ finite v → kind f z ≡ finite w
     → Band f (exactFma f x y z) (fmaIn f toward-negative x y z) (fmaIn f toward-positive x y z) (fmaFlagsIn f toward-negative x y z) (fmaFlagsIn f toward-positive x y z)
 fma-has-a-band = fma-band
 
+-- code: none, no function takes an attribute or gives flags
 pub scalbn-has-a-band : (f : Format) → Fair f → (x u : ℕ) (n : ℤ) → kind f x ≡ finite u
     → Band f (exactScalbn f x n) (scalbnIn f toward-negative x n) (scalbnIn f toward-positive x n) (scalbnFlagsIn f toward-negative x n) (scalbnFlagsIn f toward-positive x n)
 scalbn-has-a-band = scalbn-band
 
 -- ======== The two routes to the root, digit by digit and by libm's table, give the same.
--- code: `root` (crates/roots); `wide` and `narrow` (crates/table_root)
+-- code: roots::root, table_root::wide, table_root::narrow
 -- of a whole number n: t and e are the root rounded down and whether it is exact; q is a whole number next to the root, and rem its residual
 pub routes-find-one-root : (n t q rem : ℕ) (e : Bool) → FloorRoot n t × (e ≡ eqb (t * t) n) → Residual n q rem → (t ≡ floorBy q rem) × (e ≡ exactBy q rem)
 routes-find-one-root n t q rem e f r = alike n q rem r t e f
 
--- code: `entry`, `reciprocal` (crates/reciprocals)
+-- code: reciprocals::entry, reciprocals::reciprocal
 -- the table that the quick route begins with: for an entry T and any m of the step that it serves, m counted with 30 fraction bits, T² m lies strictly between 65280² and 65792²
 pub table-holds-its-rule : (i m : ℕ) → Serves i m → (65280 ^ 2 * 2 ^ 30 < entryOf i * entryOf i * m) × (entryOf i * entryOf i * m < 65792 ^ 2 * 2 ^ 30)
 table-holds-its-rule = between
 
--- code: `of_pattern`, by digits; `sqrt64`, `sqrt32`, by the table; the statuses, which take no root (crates/root)
--- of a pattern x: whatever meets the contract of either route, with the contract of the status, is one answer
+-- code: root::of_pattern, as sqrt-is-settled
+-- of a pattern x, `of_pattern` by digits and `sqrt64` and `sqrt32` by the table; the statuses take no root: whatever meets the contract of either route, with the contract of the status, is one answer
 pub routes-give-one-answer : (f : Format) (x r s a b : ℕ) → (r ≡ sqrtOf f x) × (a ≡ sqrtStatus f x) → (s ≡ sqrtOf f x) × (b ≡ sqrtStatus f x) → (r ≡ s) × (a ≡ b)
 routes-give-one-answer f x r s a b (p, i) (q, j) = (cc, cc)
 
 -- ======== What shows that the definitions say what they should
+-- code: none, worked cases of the definitions
 -- the fifteen worked cases
 pub worked-cases-hold : Cases
 worked-cases-hold = cases
 
+-- code: none, worked cases of the definitions
 -- and those of the flags and the attributes, with two fair formats in which a root underflows
 pub flag-cases-hold : FlagCases
 flag-cases-hold = flag-cases
 
--- no lazy answer is the definition's: the canonical NaN to everything, a NaN as it came, a quotient always zero, all refused, the output untouched, the first place alone filled, always OK, no flag ever, always inexact
-pub lazy-answers-differ : Lazy
-lazy-answers-differ = lazy
+-- code: none, worked cases of the definitions
+-- at neither width is a lazy answer the definition's: the canonical NaN to everything, a NaN as it came, a quotient always zero, all refused, the output untouched, the first place alone filled, always OK, no flag ever, always inexact
+pub lazy-answers-differ : Lazy64 × Lazy32
+lazy-answers-differ = (lazy64, lazy32)
 
 -- ======== What others say
+-- code: none, the definitions beside another account
 -- the toolchain's own account of IEEE 754, by which it says what f32 and f64 are, agrees: what patterns stand for, how every fraction is rounded to the nearest even, and the operations;
 -- crates/agreement/specs has the statements, and what that account has no word for
 pub agrees64 : Agrees binary64
 agrees64 = agrees binary64
 
+-- code: none, the definitions beside another account
 pub agrees32 : Agrees binary32
 agrees32 = agrees binary32

@@ -5,7 +5,8 @@ use mathlib.Core.Logic.{inl, inr}
 use native.Mathlib.Omega.{arith}
 use Rattle.ieee.specs.Refusal.{numberOf, valueOf}
 use Rattle.ieee.specs.Reduction.{shiftLimit, divisorLimit, reduceOf}
-use Rattle.ieee.proofs.Reductions.{Fit, ReduceRefusals, reduction-is, reduce-done}
+use Rattle.ieee.specs.ReductionRule.{Fit, ReduceRefusals}
+use Rattle.ieee.proofs.Reductions.{reduction-is, reduce-done}
 
 module _ (w x e y : ℕ) where
   abbrev number : ℕ

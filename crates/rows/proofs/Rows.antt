@@ -9,10 +9,11 @@ use Rattle.ieee.specs.Format.{Format, inf, units, canonical}
 use Rattle.ieee.specs.Pattern.{Pattern, magnitude, minus, signed, unlike, Kind, nan, infinite, finite, kind}
 use Rattle.ieee.specs.Round.{ties-to-even}
 use Rattle.ieee.specs.Fma.{times as times-kinds, sumOf, zeroSum, plusBy, fmaIn, fmaOf, InfiniteProduct, of-both, of-first, of-second, productSign, against}
+use Rattle.ieee.specs.FmaRows.{FmaRows}
 use Rattle.ieee.proofs.Units.{units-zero, units-lt}
 use Rattle.ieee.proofs.Patterns.{inf-below-top, canonical-pattern, pattern-signed, kind-nan, kind-infinite, kind-finite, signed-is}
 use Rattle.ieee.proofs.Attributes.{answer-pattern}
-use Rattle.ieee.proofs.Fmas.{FmaRows, fma-rows}
+use Rattle.ieee.proofs.Fmas.{fma-rows}
 use Rattle.fields.specs.Width.{format, Fits}
 use Rattle.norms.proofs.Asides.{set-aside}
 use Rattle.rows.specs.Special.{Special}
@@ -33,7 +34,7 @@ module _ (f : Format) (x y z : ℕ) where
   unfolding fmaOf
   of-in = refl
 
-  rows : FmaRows f ties-to-even x y z
+  rows : FmaRows f ties-to-even x y z (fmaIn f ties-to-even x y z)
   rows = fma-rows f ties-to-even x y z
 
   -- ---- a NaN anywhere

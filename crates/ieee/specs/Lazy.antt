@@ -1,0 +1,62 @@
+-- Lazy answers, each at an input where the definitions say otherwise. Assumes nothing.
+use Prim.Native.Nat.{ℕ}
+use mathlib.Core.Path.{_≡_}
+use mathlib.Core.Bool.{true}
+use mathlib.Core.List.{[], _∷_}
+use lib.IntN.{pos, negsuc}
+use Rattle.ieee.specs.Format.{Format, b64, b32, canonical}
+use Rattle.ieee.specs.Flags.{none, onlyInexact}
+use Rattle.ieee.specs.Sqrt.{sqrtOf, sqrtFlags}
+use Rattle.ieee.specs.Fma.{fmaOf, fmaFlags}
+use Rattle.ieee.specs.Scalbn.{scalbnOf, scalbnFlags}
+use Rattle.ieee.specs.Status.{OK, INEXACT}
+use Rattle.ieee.specs.Whole.{floorOf, truncOf, floorFlags, truncFlags, floorStatus, truncStatus}
+use Rattle.ieee.specs.Fmod.{fmodOf}
+use Rattle.ieee.specs.Remquo.{remquoOf, quotientOf}
+use Rattle.ieee.specs.Refusal.{numberOf}
+use Rattle.ieee.specs.Reduction.{reduceOf}
+use Rattle.ieee.specs.Lists.{listOf}
+
+-- in words of w bits: the patterns of 1/2, 1, 2 and 4, and a NaN with a sign, that signals
+pub record Lazy (f : Format) (w half one two four marked : ℕ) : Type 0 where
+  -- the canonical NaN to everything
+  pub sqrt-nan : sqrtOf f one ≡ canonical f → ⊥
+  pub fma-nan : fmaOf f one one one ≡ canonical f → ⊥
+  pub fmod-nan : fmodOf f one one ≡ canonical f → ⊥
+  pub remquo-nan : remquoOf f one one ≡ canonical f → ⊥
+  pub scalbn-nan : scalbnOf f one (pos 0) ≡ canonical f → ⊥
+  pub floor-nan : floorOf f one ≡ canonical f → ⊥
+  pub trunc-nan : truncOf f one ≡ canonical f → ⊥
+  -- a NaN as it came, with its sign and its payload
+  pub floor-nan-kept : floorOf f marked ≡ marked → ⊥
+  pub trunc-nan-kept : truncOf f marked ≡ marked → ⊥
+  -- the quotient always zero
+  pub quotient-zero : quotientOf f one one ≡ pos 0 → ⊥
+  -- every list refused, and every reduction
+  pub list-refused : (numberOf (listOf f 1 [] [] .answer) ≡ 0 → ⊥) → ⊥
+  pub reduction-refused : (numberOf (reduceOf w 1 0 1) ≡ 0 → ⊥) → ⊥
+  -- the output untouched, and the first place alone filled
+  pub list-untouched : listOf f 1 (four ∷ []) (0 ∷ []) .output ≡ 0 ∷ [] → ⊥
+  pub list-first-alone : (r : ℕ) → listOf f 1 (four ∷ four ∷ []) (0 ∷ 0 ∷ []) .output ≡ r ∷ 0 ∷ [] → ⊥
+  -- always OK, and always INEXACT
+  pub floor-always-ok : floorStatus f half ≡ OK → ⊥
+  pub trunc-always-ok : truncStatus f half ≡ OK → ⊥
+  pub floor-never-ok : floorStatus f one ≡ INEXACT → ⊥
+  pub trunc-never-ok : truncStatus f one ≡ INEXACT → ⊥
+  -- no flag ever, and always inexact
+  pub sqrt-no-flag : sqrtFlags f two ≡ none → ⊥
+  pub fma-no-flag : fmaFlags f one one 1 ≡ none → ⊥
+  pub scalbn-no-flag : scalbnFlags f 1 (negsuc 0) ≡ none → ⊥
+  pub floor-no-flag : floorFlags f half ≡ none → ⊥
+  pub trunc-no-flag : truncFlags f half ≡ none → ⊥
+  pub sqrt-always-inexact : sqrtFlags f four ≡ onlyInexact true → ⊥
+  pub fma-always-inexact : fmaFlags f one one one ≡ onlyInexact true → ⊥
+  pub scalbn-always-inexact : scalbnFlags f one (pos 0) ≡ onlyInexact true → ⊥
+  pub floor-always-inexact : floorFlags f one ≡ onlyInexact true → ⊥
+  pub trunc-always-inexact : truncFlags f one ≡ onlyInexact true → ⊥
+
+abbrev pub Lazy64 : Type 0
+Lazy64 = Lazy b64 64 0x3fe0000000000000 0x3ff0000000000000 0x4000000000000000 0x4010000000000000 0xfff0000000000001
+
+abbrev pub Lazy32 : Type 0
+Lazy32 = Lazy b32 32 0x3f000000 0x3f800000 0x40000000 0x40800000 0xff800001
