@@ -1,4 +1,4 @@
-# What tests/build, tests/pk, tests/batch, tests/bindings and tests/outside share: commands run, and held to what they must write. Read by them, in sh, with a folder of its own for each.
+# What tests/build, tests/pk, tests/pk_list, tests/bindings and tests/outside share: commands run, and held to what they must write. Read by them, in sh, with a folder of its own for each.
 scratch=$(mktemp -d) || exit 2
 trap 'rm -rf "$scratch"' EXIT
 tried=0 failed=0

@@ -22,8 +22,8 @@ mod known;
 mod list_shapes;
 mod lists;
 mod numbers;
-#[cfg(plain_root)]
-mod plain_root;
+#[cfg(sqrt_plain)]
+mod sqrt_plain;
 mod quick;
 mod record;
 mod reductions;

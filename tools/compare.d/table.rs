@@ -6,15 +6,15 @@
 use crate::format::Format;
 use crate::fused::FOR_FUSED;
 use crate::lists::ListCall;
-#[cfg(plain_root)]
-use crate::plain_root as other_root;
+#[cfg(sqrt_plain)]
+use crate::sqrt_plain as other_root;
 use crate::quick::{Draw, FOR_SCALING, FOR_WHOLE};
 use crate::reductions::{FOR_REDUCTIONS, by_the_crate};
 use crate::remainders::FOR_REMAINDERS;
 use crate::request::{Answer, Request};
 use crate::roots::FOR_ROOTS;
 use oracle::api;
-#[cfg(not(plain_root))]
+#[cfg(not(sqrt_plain))]
 use oracle::api as other_root;
 
 /// What becomes of NaN answers.
@@ -47,8 +47,8 @@ impl Nans {
 }
 
 /// Whose the other side is; in a run of the two routes of the root both are ours, so that NaNs too must be alike.
-pub const OTHER: &str = if cfg!(plain_root) { "the plain root" } else { "the crate" };
-const OF_ROOTS: Nans = if cfg!(plain_root) { Nans::BitForBit } else { Nans::Equal };
+pub const OTHER: &str = if cfg!(sqrt_plain) { "the plain root" } else { "the crate" };
+const OF_ROOTS: Nans = if cfg!(sqrt_plain) { Nans::BitForBit } else { Nans::Equal };
 
 /// Whose answers are taken for right.
 #[derive(Clone, Copy, Debug, PartialEq, Eq)]

@@ -1,6 +1,6 @@
-pub mod Products
-pub mod Quotients
-pub mod Powers
-pub mod Roots
 pub mod Integers
 pub mod Leading
+pub mod Powers
+pub mod Products
+pub mod Quotients
+pub mod Roots

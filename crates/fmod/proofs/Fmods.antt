@@ -16,11 +16,11 @@ use Rattle.ieee.specs.Fmod.{divide, left, fmodOf}
 use Rattle.ieee.proofs.Units.{units-zero, units-lt}
 use Rattle.ieee.proofs.Patterns.{inf-below-top, pattern-signed, kind-infinite, kind-finite}
 use Rattle.ieee.proofs.Remainders.{fmod-rows}
-use Rattle.fields.specs.Width.{format, Fits}
-use Rattle.packing.proofs.Packs.{Apart, apart, pastOne, significand, past-one-small, exactly-below}
-use Rattle.sorting.specs.Rows.{noRemainder}
-use Rattle.patterns.proofs.Numbers.{infinity-some}
-use Rattle.sorting.proofs.Sorts.{no-remainder-none, Remains, remains}
+use Rattle.fmt_fields.specs.Width.{format, Fits}
+use Rattle.fmt_decode.proofs.Packs.{Apart, apart, pastOne, significand, past-one-small, exactly-below}
+use Rattle.fmt_decode.specs.Rows.{noRemainder}
+use Rattle.fmt_fields.proofs.Numbers.{infinity-some}
+use Rattle.fmt_decode.proofs.Sorts.{no-remainder-none, Remains, remains}
 
 -- a common factor of two numbers is one of the remainder
 scaled-left : (a b t : ℕ) → 0 < b → 0 < t → left (a * t) (b * t) ≡ (a % b) * t

@@ -1,1 +1,2 @@
 pub mod Fmods
+pub mod Reductions

@@ -42,7 +42,7 @@ pub magnified-twice : (x : Exact) (p q : ℕ) → magnified x (p * q) ≡ magnif
 magnified-twice (ratio n d) p q = ap (λ c. ratio c d) (omega arith)
 magnified-twice (root n) p q = ap root (omega arith)
 
--- ---- x is at or past the place from which on, with no bound above, the answer is at least suc j
+-- ---- x is at or past the point from which on, with no bound above, the answer is at least suc j
 abbrev pub Reaches : Format → Way → Exact → ℕ → Type 0
 Reaches f even x j = Over x (middle f j) × (Under x (middle f j) → suc j % 2 ≡ 0)
 Reaches f away x j = Over x (middle f j)

@@ -9,7 +9,7 @@ use Rattle.ieee.specs.Status.{OK, INVALID, INEXACT}
 use Rattle.ieee.specs.Reduction.{shiftLimit, divisorLimit}
 use Rattle.ieee.specs.Lists.{listLimit}
 
--- fraction bits, bias, the place of the smallest unit, the halfway point to infinity, the canonical NaN; 1 is 2 ^ low smallest units
+-- fraction bits, bias, the exponent of the smallest unit, the halfway point to infinity, the canonical NaN; 1 is 2 ^ low smallest units
 pub record Numbers (f : Format) (frac-is bias-is low-is halfway-is nan-is one : ℕ) : Type 0 where
   pub fraction : f .frac ≡ frac-is
   pub offset : bias f ≡ bias-is

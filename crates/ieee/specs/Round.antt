@@ -10,11 +10,11 @@ use Rattle.ieee.specs.Exact.{Exact, Value, ratio, over, under, signOf, a
 pub data Way : Type 0 where
   even away shorter longer : Way
 
--- twice the place midway between a magnitude and the next
+-- twice the midpoint between a magnitude and the next
 abbrev pub middle : Format → ℕ → ℕ
 middle f j = units f j + units f (suc j)
 
--- x is at or past the place from which on the answer is at least suc j
+-- x is at or past the point from which on the answer is at least suc j
 unfoldable pub passes : Format → Way → Exact → ℕ → Bool
 unfolding units
 passes f even x j = over x (middle f j) && (not (under x (middle f j)) || eqb (suc j % 2) 0)

@@ -1,4 +1,4 @@
 -- What the contracts need of the list call's definition, over the format, the operation and the limit.
-pub mod Operations
-pub mod Numbers
 pub mod Filling
+pub mod Numbers
+pub mod Operations

@@ -4,7 +4,7 @@ ghost use Rattle.ieee.specs.Format.{b64};
 ghost use Rattle.ieee.specs.Lists.{listOf};
 ghost use Rattle.ieee.specs.Refusal.{numberOf, valueOf};
 use super::Listed64;
-use super::places::fill64;
+use super::fill::fill64;
 use super::refusal::LIMIT;
 use super::refusal::list_refusal;
 

@@ -4,9 +4,9 @@ use mathlib.Core.List.{List}
 use Prim.Native.Nat.{ℕ, zero, suc, _≤_}
 use native.Mathlib.Omega.{arith}
 use lib.ListN.{length, getD, List·getD-eq-default}
-use Rattle.operations.specs.declared.line.Answers.{Answers}
-use Rattle.operations.specs.declared.request.Operands.{Operands}
-use Rattle.operations.specs.Table.{Operation, operations, unnamed, two, answersOf}
+use Rattle.cmd_operations.specs.declared.line.Answers.{Answers}
+use Rattle.cmd_operations.specs.declared.request.Operands.{Operands}
+use Rattle.cmd_operations.specs.Table.{Operation, operations, unnamed, two, answersOf}
 
 pub under : {number : ℕ} (k : ℕ) (a : Operands) {r : Answers} → number ≡ k → r ≡ getD operations k unnamed .answers a → r ≡ answersOf number a
 unfolding answersOf

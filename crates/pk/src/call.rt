@@ -1,8 +1,8 @@
 // The calls: each operation of the library under its number in the table.
 ghost use mathlib.Core.Path.{_≡_};
-ghost use Rattle.operations.specs.Table.{one, two, signed, answersOf};
-use operations::line::Answers;
-use operations::request::Operands;
+ghost use Rattle.cmd_operations.specs.Table.{one, two, signed, answersOf};
+use cmd_operations::line::Answers;
+use cmd_operations::request::Operands;
 
 pub fn answer_of(number: usize, a: Operands) -> Answers
     ensures { λ r. ⌜ r ≡ answersOf number a ⌝ }

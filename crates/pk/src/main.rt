@@ -2,8 +2,8 @@
 mod call;
 mod reply;
 
-use lines::Kept;
-use streams::Streams;
+use cmd_streams::Streams;
+use text_lines::Kept;
 
 // The most that one line can add to the output.
 const ROOM: usize = 1024;
@@ -21,19 +21,19 @@ struct State {
 
 fn start() -> State {
     State {
-        kept: lines::nothing_kept(),
+        kept: text_lines::nothing_kept(),
         is_comment: false,
         ended: 0,
         bad: 0,
-        streams: streams::opened(),
+        streams: cmd_streams::opened(),
     }
 }
 
 fn pass_on(mut s: State, out: &mut [u8; 65536], bytes: &[u8]) -> State {
     let streams = s.streams;
-    let mut t = streams::reserve(streams, out, bytes.len());
+    let mut t = cmd_streams::reserve(streams, out, bytes.len());
     let used = t.used;
-    t.used = lines::write_bytes(out, used, bytes);
+    t.used = text_lines::write_bytes(out, used, bytes);
     s.streams = t;
     s
 }
@@ -41,23 +41,29 @@ fn pass_on(mut s: State, out: &mut [u8; 65536], bytes: &[u8]) -> State {
 // Answers the line at hand, unless it is empty or a comment, and ends it.
 fn end_line(mut s: State, line: &[u8; 128], out: &mut [u8; 65536]) -> State {
     let streams = s.streams;
-    let mut t = streams::reserve(streams, out, ROOM);
+    let mut t = cmd_streams::reserve(streams, out, ROOM);
     let kept = s.kept;
     let held = kept.held;
     let used = t.used;
     let number = std::num::wrapping_add_u64(s.ended, 1);
     if held > 0 {
-        let reply = reply::write_reply(out, used, lines::part(line, 0, held), kept.is_long, number);
+        let reply = reply::write_reply(
+            out,
+            used,
+            text_lines::part(line, 0, held),
+            kept.is_long,
+            number,
+        );
         t.used = reply.end;
         if reply.is_bad {
             s.bad = std::num::wrapping_add_u64(s.bad, 1);
         }
     }
     let end = t.used;
-    t.used = lines::write_bytes(out, end, b"\n");
+    t.used = text_lines::write_bytes(out, end, b"\n");
     s.streams = t;
     s.ended = number;
-    let none = lines::nothing_kept();
+    let none = text_lines::nothing_kept();
     s.kept = none;
     s.is_comment = false;
     s
@@ -82,7 +88,7 @@ fn take_part(mut s: State, line: &mut [u8; 128], out: &mut [u8; 65536], bytes: &
         return pass_on(s, out, bytes);
     }
     let kept = s.kept;
-    let more = lines::keep(line, kept, bytes);
+    let more = text_lines::keep(line, kept, bytes);
     s.kept = more;
     s
 }
@@ -92,12 +98,12 @@ fn take_lines(s: State, line: &mut [u8; 128], out: &mut [u8; 65536], bytes: &[u8
     let mut i = 0;
     while i < bytes.len() {
         let rest = &bytes[i..];
-        let n = lines::find(rest, 0, b'\n');
+        let n = text_lines::find(rest, 0, b'\n');
         if n == rest.len() {
             return take_part(t, line, out, rest);
         }
         i += n + 1;
-        t = take_part(t, line, out, lines::part(rest, 0, n));
+        t = take_part(t, line, out, text_lines::part(rest, 0, n));
         t = end_line(t, line, out);
     }
     t
@@ -111,12 +117,12 @@ fn turn(
     input: &mut [u8; 65536],
 ) -> State {
     let streams = s.streams;
-    let taken = streams::take(streams, input);
+    let taken = cmd_streams::take(streams, input);
     let next = taken.streams;
     s.streams = next;
-    let mut t = take_lines(s, line, out, lines::part(input, 0, taken.count));
+    let mut t = take_lines(s, line, out, text_lines::part(input, 0, taken.count));
     let full = t.streams;
-    let written = streams::flush(full, out);
+    let written = cmd_streams::flush(full, out);
     t.streams = written;
     t
 }
@@ -137,7 +143,7 @@ fn run(line: &mut [u8; 128], out: &mut [u8; 65536], input: &mut [u8; 65536]) -> 
 
 fn broken(mut s: State) -> State {
     let streams = s.streams;
-    let next = streams::broken(streams);
+    let next = cmd_streams::broken(streams);
     s.streams = next;
     s
 }
@@ -160,5 +166,5 @@ fn main() {
     let mut input = io::large_buffer();
     let s = run(&mut line, &mut out, &mut input);
     let t = finish(s, &line, &mut out);
-    streams::close(t.streams, &out, t.bad);
+    cmd_streams::close(t.streams, &out, t.bad);
 }

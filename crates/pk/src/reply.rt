@@ -1,21 +1,21 @@
 // The answered line, or the line that says what is wrong with a request.
 use crate::call::answer_of;
-use lines::find_arrow;
-use lines::part;
-use lines::write_bytes;
-use operations::complaint::Complaint;
-use operations::complaint::FINE;
-use operations::complaint::complaint_of;
-use operations::complaint::with_complaint;
-use operations::complaint::with_start;
-use operations::line::empty;
-use operations::line::with_answers;
-use operations::line::write_line;
-use operations::request::Request;
-use operations::request::read_request;
-use operations::text::Text;
+use cmd_operations::complaint::Complaint;
+use cmd_operations::complaint::FINE;
+use cmd_operations::complaint::complaint_of;
+use cmd_operations::complaint::with_complaint;
+use cmd_operations::complaint::with_start;
+use cmd_operations::line::empty;
+use cmd_operations::line::with_answers;
+use cmd_operations::line::write_line;
+use cmd_operations::request::Request;
+use cmd_operations::request::read_request;
+use cmd_operations::text::Text;
+use text_lines::find_arrow;
+use text_lines::part;
+use text_lines::write_bytes;
 
-// What was written: the place after it, and whether it says that the line is bad.
+// What was written: the offset after it, and whether it says that the line is bad.
 pub struct Reply {
     pub end: usize,
     pub is_bad: bool,
@@ -38,7 +38,7 @@ fn answer(out: &mut [u8], at: usize, asked: &[u8], r: Request) -> Reply {
     }
 }
 
-// Answers the line number `number`, of which s is the whole or, where `is_long`, the first part, from the place at on.
+// Answers the line number `number`, of which s is the whole or, where `is_long`, the first part, from the offset at on.
 pub fn write_reply(out: &mut [u8], at: usize, s: &[u8], is_long: bool, number: u64) -> Reply {
     let arrow = find_arrow(s);
     if is_long {

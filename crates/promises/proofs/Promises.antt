@@ -77,13 +77,13 @@ use Rattle.ieee.proofs.FlagsSettled.{sqrt-flags-settled, fma-flags-settled, sca
 use Rattle.ieee.proofs.Cases.{cases}
 use Rattle.ieee.proofs.FlagCases.{flag-cases}
 use Rattle.ieee.proofs.Lazy.{lazy64, lazy32}
-use Rattle.agreement.specs.Agrees.{Agrees}
-use Rattle.agreement.proofs.Agreement.{agrees}
-use Rattle.reciprocals.specs.Table.{entryOf, Serves}
-use Rattle.reciprocals.proofs.Rule.{between}
-use Rattle.roots.specs.Floor.{FloorRoot}
-use Rattle.table_root.specs.Residual.{Residual, floorBy, exactBy}
-use Rattle.table_root.proofs.Wholes.{alike}
+use Rattle.ieee_agreement_laws.specs.Agrees.{Agrees}
+use Rattle.ieee_agreement_laws.proofs.Agreement.{agrees}
+use Rattle.sqrt_table.specs.Table.{entryOf, Serves}
+use Rattle.sqrt_table.proofs.Rule.{between}
+use Rattle.sqrt_digits.specs.Floor.{FloorRoot}
+use Rattle.sqrt_table.specs.Residual.{Residual, floorBy, exactBy}
+use Rattle.sqrt_table.proofs.Wholes.{alike}
 
 -- ======== What is spoken of
 -- code: none, the formats
@@ -436,18 +436,18 @@ pub scalbn-has-a-band : (f : Format) → Fair f → (x u : ℕ) (n : ℤ) → ki
 scalbn-has-a-band = scalbn-band
 
 -- ======== The two routes to the root, digit by digit and by libm's table, give the same.
--- code: roots::root, table_root::wide, table_root::narrow
+-- code: sqrt_digits::floor_root, sqrt_table::root53, sqrt_table::root24
 -- of a whole number n: t and e are the root rounded down and whether it is exact; q is a whole number next to the root, and rem its residual
 pub routes-find-one-root : (n t q rem : ℕ) (e : Bool) → FloorRoot n t × (e ≡ eqb (t * t) n) → Residual n q rem → (t ≡ floorBy q rem) × (e ≡ exactBy q rem)
 routes-find-one-root n t q rem e f r = alike n q rem r t e f
 
--- code: reciprocals::entry, reciprocals::reciprocal
+-- code: sqrt_table::entry, sqrt_table::reciprocal
 -- the table that the quick route begins with: for an entry T and any m of the step that it serves, m counted with 30 fraction bits, T² m lies strictly between 65280² and 65792²
 pub table-holds-its-rule : (i m : ℕ) → Serves i m → (65280 ^ 2 * 2 ^ 30 < entryOf i * entryOf i * m) × (entryOf i * entryOf i * m < 65792 ^ 2 * 2 ^ 30)
 table-holds-its-rule = between
 
--- code: root::of_pattern, as sqrt-is-settled
--- of a pattern x, `of_pattern` by digits and `sqrt64` and `sqrt32` by the table; the statuses take no root: whatever meets the contract of either route, with the contract of the status, is one answer
+-- code: sqrt::sqrt_pattern, as sqrt-is-settled
+-- of a pattern x, `sqrt_pattern` by digits and `sqrt64` and `sqrt32` by the table; the statuses take no root: whatever meets the contract of either route, with the contract of the status, is one answer
 pub routes-give-one-answer : (f : Format) (x r s a b : ℕ) → (r ≡ sqrtOf f x) × (a ≡ sqrtStatus f x) → (s ≡ sqrtOf f x) × (b ≡ sqrtStatus f x) → (r ≡ s) × (a ≡ b)
 routes-give-one-answer f x r s a b (p, i) (q, j) = (cc, cc)
 
@@ -470,7 +470,7 @@ lazy-answers-differ = (lazy64, lazy32)
 -- ======== What others say
 -- code: none, the definitions beside another account
 -- the toolchain's own account of IEEE 754, by which it says what f32 and f64 are, agrees: what patterns stand for, how every fraction is rounded to the nearest even, and the operations;
--- crates/agreement/specs has the statements, and what that account has no word for
+-- crates/ieee_agreement_laws/specs has the statements, and what that account has no word for
 pub agrees64 : Agrees binary64
 agrees64 = agrees binary64
 

@@ -21,12 +21,12 @@ use Rattle.ieee.specs.Remquo.{remquoOf, quotientOf}
 use Rattle.ieee.proofs.Units.{units-lt, units-zero}
 use Rattle.ieee.proofs.Patterns.{kind-finite}
 use Rattle.ieee.proofs.Remquos.{remquo-rows}
-use Rattle.fields.specs.Width.{format, Fits}
-use Rattle.fields.proofs.Widths.{fields-small}
-use Rattle.exponents.specs.Field.{above}
-use Rattle.longdiv.specs.Nearest.{goesUp, counted, leftOver}
-use Rattle.significands.specs.Significand.{sigOf, expOf, unitsAt}
-use Rattle.significands.proofs.Significands.{normal-is, exponent-small, exponent-least}
+use Rattle.fmt_fields.specs.Width.{format, Fits}
+use Rattle.fmt_fields.proofs.Widths.{fields-small}
+use Rattle.fmt_exponents.specs.Field.{above}
+use Rattle.remquo.specs.Nearest.{goesUp, counted, leftOver}
+use Rattle.fmt_decode.specs.Significand.{sigOf, expOf, unitsAt}
+use Rattle.fmt_decode.proofs.Significands.{normal-is, exponent-small, exponent-least}
 use Rattle.remquo.proofs.Nearest.{value-by-division, quotient-by-division, left-below-infinity}
 
 -- two finite numbers that are not zero, taken apart
@@ -68,8 +68,8 @@ record Placed (f : Format) (x s at : ℕ) (exp : ℤ) : Type 0 where
   small : mag exp < 2 ^ f .expo
   least-exp : T (leZ (negsuc (f .frac)) exp)
 
-placed : {p e : ℕ} → Fits p e → (x s : ℕ) (exp : ℤ) → 0 < magnitude (format p e) x → (s ≡ sigOf (format p e) x) × (exp ≡ expOf (format p e) x) → (at : ℕ) × Placed (format p e) x s at exp
-placed {p} {e} w x s exp l (i, j) =
+at-exponent : {p e : ℕ} → Fits p e → (x s : ℕ) (exp : ℤ) → 0 < magnitude (format p e) x → (s ≡ sigOf (format p e) x) × (exp ≡ expOf (format p e) x) → (at : ℕ) × Placed (format p e) x s at exp
+at-exponent {p} {e} w x s exp l (i, j) =
     let f = format p e in
     let (at, n) = normal-is f (w .fair) x l in (
       at,
@@ -103,10 +103,10 @@ module _ {p e x y sx sy : ℕ} {ex ey : ℤ} (o : Operands p e x y sx sy ex ey) 
   v = units f (magnitude f y) - 1
 
   a : (at : ℕ) × Placed f x sx at ex
-  a = placed (o .wide) x sx ex (o .some-x) (o .taken-x)
+  a = at-exponent (o .wide) x sx ex (o .some-x) (o .taken-x)
 
   b : (at : ℕ) × Placed f y sy at ey
-  b = placed (o .wide) y sy ey (o .some-y) (o .taken-y)
+  b = at-exponent (o .wide) y sy ey (o .some-y) (o .taken-y)
 
   units-y : suc v ≡ units f (magnitude f y)
   units-y = omega (arith, units-some f (magnitude f y) (o .some-y))
@@ -137,7 +137,7 @@ module _ {p e x y sx sy : ℕ} {ex ey : ℤ} (o : Operands p e x y sx sy ex ey) 
       let w = o .wide in
       (omega (arith, a .1 .most, b .1 .least), omega (arith, b .1 .most, pow-mono {i = p} {j = 61} (omega (arith, w .word, w .fair .expo-two))))
 
-  -- digits of both over one place, divided
+  -- digits of both over one exponent, divided
   settles : (c d at rem quo : ℕ) (exp : ℤ) → exp ≡ pos (suc at) -ℤ pos p → mag exp < 2 ^ e → T (leZ (negsuc p) exp) → 0 < d → d < 2 ^ (p + 2) → u * 2 ^ p ≡ c * 2 ^ at → suc v * 2 ^ p ≡ d * 2 ^ at → rem ≡ c % d → quo ≡ c / d % 2 ^ 32
       → Settles p e x y rem d quo exp
   settles c d at rem quo exp j small least some room first second r q =
@@ -168,7 +168,7 @@ module _ {p e x y sx sy : ℕ} {ex ey : ℤ} (o : Operands p e x y sx sy ex ey) 
           mul-le-cancel (2 * u) (suc v) (2 ^ p) (pow-pos p)
           (omega (arith, a .1 .counts, b .1 .counts, times (2 ^ p) units-y, times-le (2 ^ a .0) m, times-le (2 ^ p) g, times-le (2 ^ b .0) (b .1 .least)))
 
-  -- y counts twice at the place of x
+  -- y counts twice at the exponent of x
   pub one-below : (n : ℕ) → n ≡ above (ex -ℤ ey +ℤ pos 2) → n ≡ 1 → Settles p e x y sx (sy * 2) 0 ex
   one-below n h z =
       let l : b .0 ≡ suc (a .0) = omega (arith, far-is n h) in

@@ -10,8 +10,8 @@ use Rattle.ieee.specs.Remquo.{remquoOf, quotientOf}
 use Rattle.ieee.proofs.Units.{units-lt, units-zero}
 use Rattle.ieee.proofs.Patterns.{kind-finite, kind-infinite}
 use Rattle.ieee.proofs.Remquos.{remquo-rows}
-use Rattle.sorting.specs.Rows.{noRemainder}
-use Rattle.sorting.proofs.Sorts.{no-remainder-none, Remains, remains}
+use Rattle.fmt_decode.specs.Rows.{noRemainder}
+use Rattle.fmt_decode.proofs.Sorts.{no-remainder-none, Remains, remains}
 
 module _ (f : Format) (x y : ℕ) where
   pub none-left : noRemainder f x y ≡ true → (canonical f ≡ remquoOf f x y) × (pos 0 ≡ quotientOf f x y)

@@ -1,4 +1,4 @@
--- remquo of two numbers by the digits of both over one place: the division of the digits gives what is left and the quotient. Assumes nothing.
+-- remquo of two numbers by the digits of both over one exponent: the division of the digits gives what is left and the quotient. Assumes nothing.
 use Prim.Native.Nat.{ℕ, suc, _+_, _-_, _*_, _/_, _%_, _^_, _≤_, _<_}
 use mathlib.Core.Path.{_≡_, refl, sym, ap, _∙_}
 use mathlib.Core.Bool.{Bool, true, false, not, _&&_, _||_, cond}
@@ -15,10 +15,10 @@ use Rattle.ieee.specs.Round.{even, exactly}
 use Rattle.ieee.specs.Whole.{whole}
 use Rattle.ieee.specs.Remquo.{rest, remquoOf, quotientOf}
 use Rattle.ieee.proofs.Remquos.{remquo-finite, quotient-finite}
-use Rattle.longdiv.specs.Nearest.{goesUp, counted, leftOver}
-use Rattle.longdiv.proofs.Middles.{left-at-most-rest}
-use Rattle.significands.specs.Significand.{unitsAt}
-use Rattle.significands.proofs.InUnits.{units-exact}
+use Rattle.remquo.specs.Nearest.{goesUp, counted, leftOver}
+use Rattle.remquo.proofs.Middles.{left-at-most-rest}
+use Rattle.fmt_decode.specs.Significand.{unitsAt}
+use Rattle.fmt_decode.proofs.InUnits.{units-exact}
 use Rattle.remquo.proofs.Ratios.{ratio-parts, nearest-alike}
 
 -- ---- what is left, in units: the multiple q * v is at u or below it, and the next one is past it
@@ -87,7 +87,7 @@ tie-alike r d q = let e : q % 2 ^ 32 % 2 ≡ q % 2 = omega arith in ap (λ t. lt
 kept-alike : (q k b n : ℕ) → k ≡ q % 2 ^ 32 → n ≡ q + b → (k + b) % 2 ^ 31 ≡ n % 2 ^ 31
 kept-alike q k b n e h = omega arith
 
--- ---- remquo, where x is a and y is d at the place `at`, and rem and quo come of their division
+-- ---- remquo, where x is a and y is d at the exponent `at`, and rem and quo come of their division
 module _ (f : Format) (x y u w : ℕ) (is-x : kind f x ≡ finite u) (is-y : kind f y ≡ finite (suc w)) where
   module _ (a d at rem quo : ℕ) (some : 0 < d) (first : u * 2 ^ f .frac ≡ a * 2 ^ at) (second : suc w * 2 ^ f .frac ≡ d * 2 ^ at) (is-rem : rem ≡ a % d) (is-quo : quo ≡ a / d % 2 ^ 32) where
     up-alike : goesUp rem d quo ≡ goesUp (a % d) d (a / d)

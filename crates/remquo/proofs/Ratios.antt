@@ -8,10 +8,10 @@ use borrow.Author.Tests.{eq-eqb, ne-eqb}
 use lib.Dec.{ltb, eqb}
 use Rattle.algebra.proofs.Products.{times, times-le, diff, mul-le-cancel, mul-lt-cancel, mul-eq-cancel}
 use Rattle.algebra.proofs.Quotients.{div-mod, div-is}
-use Rattle.words.proofs.Pairs.{same-test}
+use Rattle.word_wide.proofs.Pairs.{same-test}
 use Rattle.ieee.specs.Round.{even}
 use Rattle.ieee.specs.Whole.{whole}
-use Rattle.longdiv.specs.Nearest.{goesUp, counted}
+use Rattle.remquo.specs.Nearest.{goesUp, counted}
 
 same-eqb : (a b c d : ℕ) → (a ≡ b → c ≡ d) → (c ≡ d → a ≡ b) → eqb a b ≡ eqb c d
 same-eqb a b c d f g = go (decLe a b) (decLe b a)

@@ -5,7 +5,7 @@ use mir.ValLaws.{toZ-ofZ}
 use borrow.Author.Needs.{needs}
 use Rattle.ieee.specs.Format.{b64, b32}
 use Rattle.ieee.specs.Scalbn.{scalbnOf}
-use Rattle.operations.specs.Table.{one, two, signed}
+use Rattle.cmd_operations.specs.Table.{one, two, signed}
 use Rattle.pk.proofs.Answering.{under, no-row, both}
 use Rattle.pk.proofs.call.answer_of.Statement.{statement}
 use Rattle.pk.proofs.call.answer_of.Tie as tie

@@ -1,2 +1,0 @@
-pub mod Toolchain
-pub mod Agrees

@@ -1,2 +1,0 @@
--- Lemmas that the functions' proofs cite, over the room l and whole numbers.
-pub mod Places

@@ -1,0 +1,2 @@
+mod Names
+mod Naming

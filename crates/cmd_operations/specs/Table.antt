@@ -1,0 +1,89 @@
+-- The operations by name: what each takes and gives, and the definition that answers it. Assumes nothing.
+use Prim.Native.Nat.{ℕ, _%_}
+use Prim.Native.String.{String}
+use mathlib.Core.List.{List, [], _∷_}
+use lib.IntN.{ℤ, pos}
+use lib.ListN.{getD}
+use Rattle.ieee.specs.Format.{b64, b32}
+use Rattle.ieee.specs.Fma.{fmaOf}
+use Rattle.ieee.specs.Fmod.{fmodOf}
+use Rattle.ieee.specs.Reduction.{reduceOf}
+use Rattle.ieee.specs.Refusal.{numberOf, valueOf}
+use Rattle.ieee.specs.Remquo.{remquoOf, quotientOf}
+use Rattle.ieee.specs.Scalbn.{scalbnOf}
+use Rattle.ieee.specs.Sqrt.{sqrtOf, sqrtStatus}
+use Rattle.ieee.specs.Whole.{truncOf, truncStatus, floorOf, floorStatus}
+use Rattle.cmd_operations.specs.declared.line.Answers.{Answers}
+use Rattle.cmd_operations.specs.declared.request.Operands.{Operands}
+use Rattle.cmd_operations.specs.declared.table.Row.{Row}
+use Rattle.cmd_operations.specs.Naming.{bytesOf, Named, textOf, rowIn}
+
+-- answers by their index, and a signed number after a word
+abbrev pub one : ℕ → Answers
+one x = record { x = x; y = 0; z = 0; n = pos 0 }
+
+abbrev pub two : ℕ → ℕ → Answers
+two x y = record { x = x; y = y; z = 0; n = pos 0 }
+
+abbrev pub signed : ℕ → ℤ → Answers
+signed x n = record { x = x; y = 0; z = 0; n = n }
+
+-- an operand as a word of 32 bits
+abbrev pub low : ℕ → ℕ
+low x = x % 4294967296
+
+pub record Operation : Type 0 where
+  pub row : Named
+  pub answers : Operands → Answers
+
+abbrev pub operation : String → String → (Operands → Answers) → Operation
+operation name kinds answers = record { row = record { name = bytesOf name; kinds = bytesOf kinds }; answers = answers }
+
+-- in the order of their numbers; crates/cmd_operations/src/table.rt says what the kinds are
+abbrev pub operations : List Operation
+operations =
+    operation "floor64" "W-- WF-" (λ a. two (floorOf b64 (a .x)) (floorStatus b64 (a .x)))
+    ∷ operation "floor32" "w-- wF-" (λ a. two (floorOf b32 (low (a .x))) (floorStatus b32 (low (a .x))))
+    ∷ operation "trunc64" "W-- WF-" (λ a. two (truncOf b64 (a .x)) (truncStatus b64 (a .x)))
+    ∷ operation "trunc32" "w-- wF-" (λ a. two (truncOf b32 (low (a .x))) (truncStatus b32 (low (a .x))))
+    ∷ operation "scalbn64" "WN- W--" (λ a. one (scalbnOf b64 (a .x) (a .n)))
+    ∷ operation "scalbn32" "wN- w--" (λ a. one (scalbnOf b32 (low (a .x)) (a .n)))
+    ∷ operation "fmod64" "WW- W--" (λ a. one (fmodOf b64 (a .x) (a .y)))
+    ∷ operation "fmod32" "ww- w--" (λ a. one (fmodOf b32 (low (a .x)) (low (a .y))))
+    ∷ operation "remquo64" "WW- WN-" (λ a. signed (remquoOf b64 (a .x) (a .y)) (quotientOf b64 (a .x) (a .y)))
+    ∷ operation "reduce64" "WUW UW-" (λ a. two (numberOf (reduceOf 64 (a .x) (low (a .y)) (a .z))) (valueOf (reduceOf 64 (a .x) (low (a .y)) (a .z))))
+    ∷ operation "reduce32" "wUw Uw-" (λ a. two (numberOf (reduceOf 32 (low (a .x)) (low (a .y)) (low (a .z)))) (valueOf (reduceOf 32 (low (a .x)) (low (a .y)) (low (a .z)))))
+    ∷ operation "sqrt64" "W-- WF-" (λ a. two (sqrtOf b64 (a .x)) (sqrtStatus b64 (a .x)))
+    ∷ operation "sqrt32" "w-- wF-" (λ a. two (sqrtOf b32 (low (a .x))) (sqrtStatus b32 (low (a .x))))
+    ∷ operation "fma64" "WWW W--" (λ a. one (fmaOf b64 (a .x) (a .y) (a .z)))
+    ∷ operation "fma32" "www w--" (λ a. one (fmaOf b32 (low (a .x)) (low (a .y)) (low (a .z))))
+    ∷ []
+
+abbrev pub rowsOf : List Operation → List Named
+rowsOf [] = []
+rowsOf (o ∷ os) = o .row ∷ rowsOf os
+
+-- the row of the operation that s names
+unfoldable pub rowOf : List ℕ → Row
+rowOf s = rowIn s (rowsOf operations) 0 0
+
+-- what the table has at an index: past its end, nothing
+unfoldable pub kindAt : ℕ → ℕ
+kindAt index = getD (textOf (rowsOf operations)) index 0
+
+abbrev pub unnamed : Operation
+unnamed = operation "" "" (λ a. two 0 0)
+
+-- what the operation of that number gives for the operands; under any other number, nothing
+unfoldable pub answersOf : ℕ → Operands → Answers
+answersOf number a = getD operations number unnamed .answers a
+
+-- the attributes of rounding, by the name and number that docs/LINES.md has
+abbrev pub attributes : List Named
+attributes = named "even" ∷ named "zero" ∷ named "down" ∷ named "up" ∷ named "away" ∷ []
+  where
+    named : String → Named
+    named s = record { name = bytesOf s; kinds = bytesOf "--- ---" }
+
+unfoldable pub attributeOf : List ℕ → ℕ
+attributeOf s = rowIn s attributes 0 0 .number

@@ -1,0 +1,124 @@
+// Standard input and output of the programs behind ./pk: what is read and written, what is said where that fails, and the verdict at the end.
+use libc::STDERR_FILENO;
+use libc::STDIN_FILENO;
+use libc::STDOUT_FILENO;
+use text_lines::Field;
+
+// Where a number that says what to do comes from.
+const ORDER: i32 = 5;
+
+// Where the number of bad lines goes. Without that number the run did not come to its end.
+const VERDICT: i32 = 3;
+
+pub struct Streams {
+    // The bytes of the output that are still to be written.
+    pub used: usize,
+    // Whether there is more to read.
+    pub is_open: bool,
+    // Whether reading or writing failed.
+    pub is_broken: bool,
+}
+
+// What one read gave: how many bytes, none where the input ended or could not be read.
+pub struct Taken {
+    pub streams: Streams,
+    pub count: usize,
+}
+
+pub enum Asked {
+    Number(u32),
+    Nothing,
+}
+
+pub fn opened() -> Streams {
+    Streams {
+        used: 0,
+        is_open: true,
+        is_broken: false,
+    }
+}
+
+pub fn broken(mut s: Streams) -> Streams {
+    s.is_open = false;
+    s.is_broken = true;
+    s
+}
+
+// Writes out what is still to be written.
+pub fn flush(mut s: Streams, out: &[u8; 65536]) -> Streams {
+    let used = s.used;
+    s.used = 0;
+    if s.is_broken {
+        return s;
+    }
+    let is_written = io::write_all(STDOUT_FILENO, text_lines::part(out, 0, used));
+    if is_written {
+        return s;
+    }
+    io::write_all(STDERR_FILENO, b"pk: cannot write standard output\n");
+    broken(s)
+}
+
+// Makes room for `more` bytes of output.
+pub fn reserve(s: Streams, out: &[u8; 65536], more: usize) -> Streams {
+    let used = s.used;
+    if used <= 65536 {
+        if more <= 65536 - used {
+            return s;
+        }
+    }
+    flush(s, out)
+}
+
+// Reads once, unless the input has ended or anything failed.
+pub fn take(mut s: Streams, input: &mut [u8; 65536]) -> Taken {
+    if !s.is_open {
+        return Taken {
+            streams: s,
+            count: 0,
+        };
+    }
+    let got = libc::read(STDIN_FILENO, input);
+    if got < 0 {
+        io::write_all(STDERR_FILENO, b"pk: cannot read standard input\n");
+        return Taken {
+            streams: broken(s),
+            count: 0,
+        };
+    }
+    if got == 0 {
+        s.is_open = false;
+    }
+    Taken {
+        streams: s,
+        count: io::count(got, input),
+    }
+}
+
+// Writes out what is left, and then, unless anything failed, the number of bad lines.
+pub fn close(s: Streams, out: &[u8; 65536], bad: u64) {
+    let t = flush(s, out);
+    if t.is_broken {
+        return;
+    }
+    io::print_decimal(VERDICT, bad);
+    io::write_all(VERDICT, b"\n");
+}
+
+// The number of what is asked: decimal digits, up to a line feed or the end.
+pub fn read_number() -> Asked {
+    let mut text = [0u8; 16];
+    let got = libc::read(ORDER, &mut text);
+    let n = io::count(got, &text);
+    let end = text_lines::find(text_lines::part(&text, 0, n), 0, b'\n');
+    match text_lines::read_unsigned(text_lines::part(&text, 0, end)) {
+        Field::Value(v) => Asked::Number((v % 4294967296) as u32),
+        Field::Not(_) => {
+            io::write_all(
+                STDERR_FILENO,
+                b"pk: descriptor 5 has no operation's number; expected a decimal number from 0 to 4294967295\n",
+            );
+            Asked::Nothing
+        }
+    }
+}

@@ -1,1 +1,0 @@
-// The cut of the rounding step, the pattern below a value and the place of the value above it: the definitions and the lemmas.

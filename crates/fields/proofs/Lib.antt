@@ -1,2 +1,0 @@
-pub mod Widths
-pub mod Decoded

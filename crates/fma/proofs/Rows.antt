@@ -1,0 +1,152 @@
+-- The rows of fma, by magnitudes. Assumes nothing.
+use Prim.Native.Nat.{ℕ, zero, suc, _*_, _≤_, _<_}
+use mathlib.Core.Path.{_≡_, refl, sym, ap, _∙_}
+use mathlib.Core.Logic.{_⊎_, inl, inr, ⊎-elim}
+use mathlib.Core.Bool.{Bool, true, false, true≢false, cond}
+use native.Mathlib.Omega.{arith}
+use Rattle.algebra.proofs.Products.{order, times}
+use Rattle.ieee.specs.Format.{Format, inf, units, canonical}
+use Rattle.ieee.specs.Pattern.{Pattern, magnitude, minus, signed, unlike, Kind, nan, infinite, finite, kind}
+use Rattle.ieee.specs.Round.{ties-to-even}
+use Rattle.ieee.specs.Fma.{times as times-kinds, sumOf, zeroSum, plusBy, fmaIn, fmaOf, InfiniteProduct, of-both, of-first, of-second, productSign, against}
+use Rattle.ieee.specs.FmaRows.{FmaRows}
+use Rattle.ieee.proofs.Units.{units-zero, units-lt}
+use Rattle.ieee.proofs.Patterns.{inf-below-top, canonical-pattern, pattern-signed, kind-nan, kind-infinite, kind-finite, signed-is}
+use Rattle.ieee.proofs.Attributes.{answer-pattern}
+use Rattle.ieee.proofs.Fmas.{fma-rows}
+use Rattle.fmt_fields.specs.Width.{format, Fits}
+use Rattle.fmt_decode.proofs.Asides.{set-aside}
+use Rattle.fma.specs.Special.{Special}
+
+-- ---- kinds, by magnitudes
+zero-kind : (f : Format) (x : ℕ) → 0 < inf f → magnitude f x ≡ 0 → kind f x ≡ finite 0
+zero-kind f x l e = kind-finite f x (omega arith) ∙ ap finite (ap (units f) e ∙ units-zero f)
+
+some-kind : (f : Format) (x : ℕ) → 0 < magnitude f x → magnitude f x < inf f → (u : ℕ) × (kind f x ≡ finite (suc u))
+some-kind f x p l = let (u, e) = go (units f (magnitude f x)) (omega (arith, units-lt f p, units-zero f)) in (u, kind-finite f x l ∙ ap finite e)
+  where
+    go : (n : ℕ) → 0 < n → (u : ℕ) × (n ≡ suc u)
+    go zero l = absurd (omega arith)
+    go (suc n) l = (n, refl)
+
+module _ (f : Format) (x y z : ℕ) where
+  of-in : fmaIn f ties-to-even x y z ≡ fmaOf f x y z
+  unfolding fmaOf
+  of-in = refl
+
+  rows : FmaRows f ties-to-even x y z (fmaIn f ties-to-even x y z)
+  rows = fma-rows f ties-to-even x y z
+
+  -- ---- a NaN anywhere
+  pub nan-x : inf f < magnitude f x → canonical f ≡ fmaOf f x y z
+  nan-x l = sym (rows .nan-first (kind-nan f x l)) ∙ of-in
+
+  pub nan-y : inf f < magnitude f y → canonical f ≡ fmaOf f x y z
+  nan-y l = sym (rows .nan-second (kind-nan f y l)) ∙ of-in
+
+  pub nan-z : inf f < magnitude f z → canonical f ≡ fmaOf f x y z
+  nan-z l = sym (rows .nan-third (kind-nan f z l)) ∙ of-in
+
+  -- ---- an infinite factor
+  abbrev Infinite : Type 0
+  Infinite = (magnitude f x ≡ inf f) ⊎ (magnitude f y ≡ inf f)
+
+  pub zero-x : 0 < inf f → Infinite → magnitude f x ≡ 0 → canonical f ≡ fmaOf f x y z
+  zero-x some i e =
+      ⊎-elim (λ h. absurd (omega arith)) (λ h. sym (rows .zero-by-infinity (zero-kind f x some e) (kind-infinite f y h)) ∙ of-in) i
+
+  pub zero-y : 0 < inf f → Infinite → magnitude f y ≡ 0 → canonical f ≡ fmaOf f x y z
+  zero-y some i e =
+      ⊎-elim (λ h. sym (rows .infinity-by-zero (kind-infinite f x h) (zero-kind f y some e)) ∙ of-in) (λ h. absurd (omega arith)) i
+
+  infinite-first : magnitude f x ≡ inf f → 0 < magnitude f y → magnitude f y ≤ inf f → InfiniteProduct f x y
+  infinite-first e p l =
+      order (inf f) (magnitude f y)
+      (λ h. of-both (kind-infinite f x e) (kind-infinite f y (omega arith)))
+      (λ h. let (v, k) = some-kind f y p h in of-first (kind-infinite f x e) k)
+
+  infinite-second : magnitude f y ≡ inf f → 0 < magnitude f x → magnitude f x ≤ inf f → InfiniteProduct f x y
+  infinite-second e p l =
+      order (inf f) (magnitude f x)
+      (λ h. of-both (kind-infinite f x (omega arith)) (kind-infinite f y e))
+      (λ h. let (u, k) = some-kind f x p h in of-second k (kind-infinite f y e))
+
+  pub infinite-product : Infinite → 0 < magnitude f x → 0 < magnitude f y → magnitude f x ≤ inf f → magnitude f y ≤ inf f → InfiniteProduct f x y
+  infinite-product i p q l h = ⊎-elim (λ e. infinite-first e q h) (λ e. infinite-second e p l) i
+
+  pub opposite : InfiniteProduct f x y → magnitude f z ≡ inf f → against f x y z ≡ true → canonical f ≡ fmaOf f x y z
+  opposite i e u = sym (rows .opposite-infinities i (kind-infinite f z e) u) ∙ of-in
+
+  -- the product decides where z is finite or of its sign
+  pub decides : InfiniteProduct f x y → magnitude f z ≤ inf f → (magnitude f z ≡ inf f → against f x y z ≡ false) → signed f (productSign f x y) (inf f) ≡ fmaOf f x y z
+  decides i l u =
+      order (inf f) (magnitude f z)
+      (λ h. let e : magnitude f z ≡ inf f = omega arith in sym (rows .like-infinities i (kind-infinite f z e) (u e)) ∙ of-in)
+      (λ h. sym (rows .infinite-product (units f (magnitude f z)) i (kind-finite f z h)) ∙ of-in)
+
+  -- ---- an infinite z
+  pub infinite-z : Pattern f z → magnitude f x < inf f → magnitude f y < inf f → magnitude f z ≡ inf f → z ≡ fmaOf f x y z
+  infinite-z b l h e = sym (rows .infinite-third (units f (magnitude f x)) (units f (magnitude f y)) b (kind-finite f x l) (kind-finite f y h) (kind-infinite f z e)) ∙ of-in
+
+  -- ---- a zero product
+  module _ (b : Pattern f z) (l : magnitude f x < inf f) (h : magnitude f y < inf f) (k : magnitude f z < inf f) (n : (magnitude f x ≡ 0) ⊎ (magnitude f y ≡ 0)) where
+    abbrev u : ℕ
+    u = units f (magnitude f x)
+
+    abbrev v : ℕ
+    v = units f (magnitude f y)
+
+    no-product : u * v ≡ 0
+    no-product =
+        ⊎-elim
+        (λ e. let a : u ≡ 0 = ap (units f) e ∙ units-zero f in omega (arith, times v a))
+        (λ e. let a : v ≡ 0 = ap (units f) e ∙ units-zero f in omega (arith, times u a)) n
+
+    pub unlike-zeros : magnitude f z ≡ 0 → against f x y z ≡ true → 0 ≡ fmaOf f x y z
+    unlike-zeros e a = sym (rows .unlike-zeros u v (kind-finite f x l) (kind-finite f y h) no-product (zero-kind f z (omega arith) e) a (λ d. d)) ∙ of-in
+
+    -- z itself: it is no zero, or a zero of the product's sign
+    same-zeros : magnitude f z ≡ 0 → against f x y z ≡ false → z ≡ fmaOf f x y z
+    same-zeros e a =
+        let s : productSign f x y ≡ minus f z = like-is (productSign f x y) (minus f z) a in
+        sym (signed-is f z b) ∙ (λ i. signed f (sym s i) (e i)) ∙ sym (rows .like-zeros u v (kind-finite f x l) (kind-finite f y h) no-product (zero-kind f z (omega arith) e) a) ∙ of-in
+      where
+        like-is : (s t : Bool) → unlike s t ≡ false → s ≡ t
+        like-is false false e = refl
+        like-is false true e = absurd (true≢false e)
+        like-is true false e = absurd (true≢false e)
+        like-is true true e = refl
+
+    pub leaves-z : (magnitude f z ≡ 0 → against f x y z ≡ false) → z ≡ fmaOf f x y z
+    leaves-z a =
+        order (magnitude f z) 0
+        (λ q. let e : magnitude f z ≡ 0 = omega arith in same-zeros e (a e))
+        (λ q. let (w, e) = some-kind f z q k in sym (rows .zero-product u v w b (kind-finite f x l) (kind-finite f y h) no-product e) ∙ of-in)
+
+  -- what is special and neither infinite nor a NaN has a zero product
+  pub then-zero : Special f x y z → magnitude f x < inf f → magnitude f y < inf f → magnitude f z < inf f → (magnitude f x ≡ 0) ⊎ (magnitude f y ≡ 0)
+  then-zero s l h k =
+      ⊎-elim (λ e. set-aside f x e (λ q. inl q) (λ q. absurd (omega arith)))
+      (λ r. ⊎-elim (λ e. set-aside f y e (λ q. inr q) (λ q. absurd (omega arith))) (λ q. absurd (omega arith)) r) s
+
+-- ---- every answer is a pattern
+module _ {p e : ℕ} (w : Fits p e) where
+  plain-infinity : (s : Bool) → Pattern (format p e) (signed (format p e) s (inf (format p e)))
+  plain-infinity s = pattern-signed (format p e) s (inf (format p e)) (inf-below-top (format p e))
+
+  plus-pattern : (s : Bool) (k : Kind) (t : Bool) (l : Kind) → Pattern (format p e) (plusBy (format p e) ties-to-even s k t l)
+  unfolding plusBy
+  plus-pattern s nan t l = canonical-pattern (format p e)
+  plus-pattern s infinite t nan = canonical-pattern (format p e)
+  plus-pattern false infinite false infinite = plain-infinity false
+  plus-pattern false infinite true infinite = canonical-pattern (format p e)
+  plus-pattern true infinite false infinite = canonical-pattern (format p e)
+  plus-pattern true infinite true infinite = plain-infinity true
+  plus-pattern s infinite t (finite v) = plain-infinity s
+  plus-pattern s (finite u) t nan = canonical-pattern (format p e)
+  plus-pattern s (finite u) t infinite = plain-infinity t
+  plus-pattern s (finite u) t (finite v) = answer-pattern (format p e) (w .fair) ties-to-even (cond (unlike s t) (zeroSum ties-to-even) s) (sumOf (format p e) s u t v)
+
+  pub fma-pattern : (x y z : ℕ) → Pattern (format p e) (fmaOf (format p e) x y z)
+  unfolding fmaOf fmaIn
+  fma-pattern x y z = plus-pattern (productSign (format p e) x y) (times-kinds (kind (format p e) x) (kind (format p e) y)) (minus (format p e) z) (kind (format p e) z)

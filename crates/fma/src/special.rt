@@ -1,0 +1,82 @@
+// fma by its rows: the answers where an operand is an infinity or a NaN, or the product is a zero.
+ghost use mathlib.Core.Path.{_≡_};
+ghost use mathlib.Core.Logic.{_⊎_};
+ghost use Prim.Native.Nat.{_≤_, _<_};
+ghost use Rattle.ieee.specs.Format.{inf};
+ghost use Rattle.ieee.specs.Pattern.{Pattern, magnitude};
+ghost use Rattle.ieee.specs.Fma.{fmaOf};
+ghost use Rattle.fmt_fields.specs.Width.{format, Fits};
+ghost use Rattle.fma.specs.Special.{Special};
+use fmt_fields::is_negative;
+use fmt_fields::pattern::infinity;
+use fmt_fields::pattern::magnitude_of;
+use fmt_fields::pattern::nan;
+use fmt_fields::with_sign;
+
+// Where x or y is infinite: a zero has no product with it, and an infinite z of the other sign no sum.
+pub fn of_infinite_product(frac: u32, expo: u32, x: u64, y: u64, z: u64) -> u64
+    requires { ⌜ Fits frac expo × (magnitude (format frac expo) x ≤ inf (format frac expo)) × (magnitude (format frac expo) y ≤ inf (format frac expo)) × (magnitude (format frac expo) z ≤ inf (format frac expo)) × ((magnitude (format frac expo) x ≡ inf (format frac expo)) ⊎ (magnitude (format frac expo) y ≡ inf (format frac expo))) ⌝ }
+    ensures { λ r. ⌜ r ≡ fmaOf (format frac expo) x y z ⌝ }
+{
+    if magnitude_of(frac, expo, x) == 0 {
+        return nan(frac, expo);
+    }
+    if magnitude_of(frac, expo, y) == 0 {
+        return nan(frac, expo);
+    }
+    let neg = is_negative(frac, expo, x) != is_negative(frac, expo, y);
+    let inf = infinity(frac, expo);
+    let answer = with_sign(frac, expo, neg, inf);
+    if magnitude_of(frac, expo, z) < inf {
+        return answer;
+    }
+    if neg == is_negative(frac, expo, z) {
+        return answer;
+    }
+    nan(frac, expo)
+}
+
+// A product that is a zero leaves z, and of two zeros of unlike signs +0.
+pub fn of_zero_product(frac: u32, expo: u32, x: u64, y: u64, z: u64) -> u64
+    requires { ⌜ Fits frac expo × Pattern (format frac expo) z × (magnitude (format frac expo) x < inf (format frac expo)) × (magnitude (format frac expo) y < inf (format frac expo)) × (magnitude (format frac expo) z < inf (format frac expo)) × ((magnitude (format frac expo) x ≡ 0) ⊎ (magnitude (format frac expo) y ≡ 0)) ⌝ }
+    ensures { λ r. ⌜ r ≡ fmaOf (format frac expo) x y z ⌝ }
+{
+    if magnitude_of(frac, expo, z) > 0 {
+        return z;
+    }
+    let neg = is_negative(frac, expo, x) != is_negative(frac, expo, y);
+    if neg == is_negative(frac, expo, z) {
+        return z;
+    }
+    0
+}
+
+// A NaN anywhere, an infinite product, an infinite z, and what is left is a product that is a zero.
+pub fn fma_special(frac: u32, expo: u32, x: u64, y: u64, z: u64) -> u64
+    requires { ⌜ Fits frac expo × Pattern (format frac expo) z × Special (format frac expo) x y z ⌝ }
+    ensures { λ r. ⌜ r ≡ fmaOf (format frac expo) x y z ⌝ }
+{
+    let inf = infinity(frac, expo);
+    let mx = magnitude_of(frac, expo, x);
+    let my = magnitude_of(frac, expo, y);
+    let mz = magnitude_of(frac, expo, z);
+    if mx > inf {
+        return nan(frac, expo);
+    }
+    if my > inf {
+        return nan(frac, expo);
+    }
+    if mz > inf {
+        return nan(frac, expo);
+    }
+    if mx == inf {
+        return of_infinite_product(frac, expo, x, y, z);
+    }
+    if my == inf {
+        return of_infinite_product(frac, expo, x, y, z);
+    }
+    if mz == inf {
+        return z;
+    }
+    of_zero_product(frac, expo, x, y, z)
+}

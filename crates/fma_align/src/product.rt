@@ -1,0 +1,70 @@
+// The product of two numbers taken apart, twice of it, so that it is even; how far a third number stands above it; and where their sum stands.
+ghost use mathlib.Core.Path.{_≡_};
+ghost use Prim.Native.Nat.{_*_, _<_, _^_};
+ghost use lib.IntN.{pos, _+ℤ_, _-ℤ_};
+ghost use lib.Signed.{mag};
+ghost use Rattle.ieee.specs.Pattern.{unlike};
+ghost use Rattle.word_wide.specs.Value.{value};
+use fmt_decode::norm::Norm;
+use word_wide::Wide;
+use word_wide::product::mul;
+
+// A product of two words, with its exponent and its sign.
+pub struct Product64 {
+    pub sig: Wide,
+    pub exp: i32,
+    pub neg: bool,
+}
+
+// A product of one word.
+pub struct Product32 {
+    pub sig: u64,
+    pub exp: i32,
+    pub neg: bool,
+}
+
+// The sum of two exponents.
+pub fn add_exponents(a: i32, b: i32) -> i32
+    requires { ⌜ (mag a < 2 ^ 18) × (mag b < 2 ^ 18) ⌝ }
+    ensures { λ r. ⌜ r ≡ a +ℤ b ⌝ }
+{
+    a + b
+}
+
+// How far the exponent a stands above b.
+pub fn subtract_exponents(a: i32, b: i32) -> i32
+    requires { ⌜ (mag a < 2 ^ 18) × (mag b < 2 ^ 18) ⌝ }
+    ensures { λ r. ⌜ r ≡ a -ℤ b ⌝ }
+{
+    a - b
+}
+
+// The exponent of a step of the sum, in smallest units, which are 2^-low: the product's, and what it went down; less one, since it is taken twice.
+pub fn sum_exponent(exp: i32, low: u32, down: u32) -> i32
+    requires { ⌜ (mag exp < 2 ^ 18) × (low < 2 ^ 18) × (down < 2 ^ 19) ⌝ }
+    ensures { λ r. ⌜ r ≡ exp +ℤ pos low +ℤ pos down -ℤ pos 1 ⌝ }
+{
+    exp + low as i32 + down as i32 - 1
+}
+
+pub fn multiply64(x: Norm, y: Norm) -> Product64
+    requires { ⌜ (x .sig < 2 ^ 63) × (mag (x .exp) < 2 ^ 18) × (mag (y .exp) < 2 ^ 18) ⌝ }
+    ensures { λ r. ⌜ (value (r .sig) ≡ 2 * (x .sig * y .sig)) × (r .exp ≡ x .exp +ℤ y .exp) × (r .neg ≡ unlike (x .neg) (y .neg)) ⌝ }
+{
+    Product64 {
+        sig: mul(x.sig * 2, y.sig),
+        exp: add_exponents(x.exp, y.exp),
+        neg: x.neg != y.neg,
+    }
+}
+
+pub fn multiply32(x: Norm, y: Norm) -> Product32
+    requires { ⌜ (x .sig < 2 ^ 31) × (y .sig < 2 ^ 32) × (mag (x .exp) < 2 ^ 18) × (mag (y .exp) < 2 ^ 18) ⌝ }
+    ensures { λ r. ⌜ (r .sig ≡ 2 * (x .sig * y .sig)) × (r .exp ≡ x .exp +ℤ y .exp) × (r .neg ≡ unlike (x .neg) (y .neg)) ⌝ }
+{
+    Product32 {
+        sig: x.sig * 2 * y.sig,
+        exp: add_exponents(x.exp, y.exp),
+        neg: x.neg != y.neg,
+    }
+}

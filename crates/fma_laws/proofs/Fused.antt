@@ -1,0 +1,150 @@
+-- fma of numbers that are not zero is its count of steps, rounded once; and where the third number is zero, the product is. Assumes nothing.
+use Prim.Native.Nat.{ℕ, _+_, _*_, _^_, _≤_, _<_}
+use mathlib.Core.Path.{_≡_, sym, ap, _∙_}
+use mathlib.Core.Bool.{Bool, true, false}
+use native.Mathlib.Nat.{mul-le-mul}
+use native.Mathlib.Omega.{arith}
+use lib.Pow.{pow-pos}
+use lib.IntN.{ℤ, pos, _+ℤ_, _-ℤ_, _*ℤ_}
+use Rattle.algebra.proofs.Products.{times, times-le}
+use Rattle.algebra.proofs.Integers.{addZ, subZ, eqZ}
+use Rattle.ieee.specs.Format.{Format, Fair, low, inf, units}
+use Rattle.ieee.specs.Pattern.{minus, magnitude, unlike, withSign, value}
+use Rattle.ieee.specs.Exact.{dyadic}
+use Rattle.ieee.specs.Round.{ties-to-even, answer}
+use Rattle.ieee.specs.Scalbn.{scaled}
+use Rattle.ieee.specs.Fma.{fmaOf, zeroSign, productSign, against}
+use Rattle.ieee.proofs.Units.{units-zero, units-lt}
+use Rattle.ieee.proofs.Patterns.{value-is, kind-finite}
+use Rattle.ieee.proofs.Signs.{signed-times, signed-product, signed-zero}
+use Rattle.ieee.proofs.Fmas.{fma-answer, fma-rows}
+use Rattle.round_step.proofs.Scaled.{scaled-moves}
+use Rattle.fmt_decode.specs.Significand.{sigOf}
+use Rattle.fmt_decode.proofs.Significands.{Normal, normal-is}
+use Rattle.fmt_decode.specs.Norm.{normExpOf}
+use Rattle.fmt_decode.proofs.Asides.{Ordinary}
+use Rattle.fma_laws.specs.Aligned.{joined, joinedSign}
+use Rattle.fma_laws.specs.Fused.{productSig, thirdSig, aboveBy, fusedSteps, fusedSign, fusedExp}
+use Rattle.fma_laws.proofs.Sums.{sum-signed, sign-first}
+use Rattle.fma_laws.proofs.Forms.{finer-answer, counted-answer}
+use Rattle.fma_laws.proofs.Joined.{Terms, sum-none, sum-sign, sum-answer}
+use Rattle.fma_laws.proofs.Exponents.{finer, product-exp, product-counts, product-whole, third-whole, above-is, fused-exp, sized}
+
+-- ---- the exact sum of three finite numbers: the product and the third number in 2 ^ -low of the smallest unit, their sum, and its sign
+abbrev first : Format → ℕ → ℕ → ℕ
+first f x y = units f (magnitude f x) * units f (magnitude f y)
+
+abbrev second : Format → ℕ → ℕ
+second f z = units f (magnitude f z) * 2 ^ low f
+
+abbrev total : Format → ℕ → ℕ → ℕ → ℕ
+total f x y z = joined (against f x y z) (first f x y) (second f z)
+
+abbrev totalSign : Format → ℕ → ℕ → ℕ → Bool
+totalSign f x y z = joinedSign (productSign f x y) (minus f z) (first f x y) (second f z)
+
+module _ (f : Format) (x y z : ℕ) where
+  numerator : value f x *ℤ value f y +ℤ value f z *ℤ pos (2 ^ low f) ≡ withSign (totalSign f x y z) (total f x y z)
+  numerator =
+      let p = signed-product (minus f x) (minus f y) (units f (magnitude f x)) (units f (magnitude f y)) in
+      let q = signed-times (minus f z) (units f (magnitude f z)) (2 ^ low f) in
+      (λ i. value-is f x i *ℤ value-is f y i +ℤ value-is f z i *ℤ pos (2 ^ low f))
+      ∙ (λ i. p i +ℤ q i)
+      ∙ sum-signed (productSign f x y) (minus f z) (first f x y) (second f z)
+
+  total-answer : magnitude f x < inf f → magnitude f y < inf f → magnitude f z < inf f
+      → fmaOf f x y z ≡ answer f ties-to-even (zeroSign f ties-to-even x y z) (dyadic (withSign (totalSign f x y z) (total f x y z)) (low f))
+  unfolding fmaOf
+  total-answer p q r =
+      fma-answer f ties-to-even x y z (units f (magnitude f x)) (units f (magnitude f y)) (units f (magnitude f z)) (kind-finite f x p) (kind-finite f y q) (kind-finite f z r)
+      ∙ ap (λ n. answer f ties-to-even (zeroSign f ties-to-even x y z) (dyadic n (low f))) numerator
+
+  total-none : magnitude f x < inf f → magnitude f y < inf f → magnitude f z < inf f → 0 < first f x y → total f x y z ≡ 0 → fmaOf f x y z ≡ 0
+  unfolding fmaOf
+  total-none p q r l e =
+      fma-rows f ties-to-even x y z
+      .zero-sum (units f (magnitude f x)) (units f (magnitude f y)) (units f (magnitude f z)) (kind-finite f x p) (kind-finite f y q) (kind-finite f z r) l
+      (numerator ∙ ap (withSign (totalSign f x y z)) e ∙ signed-zero (totalSign f x y z)) (λ d. d)
+
+-- the product of numbers that are not zero is none
+product-some : (f : Format) (x y : ℕ) → Ordinary f x → Ordinary f y → 0 < first f x y
+product-some f x y ox oy = omega (arith, mul-le-mul (units-lt f (ox .least)) (units-lt f (oy .least)))
+
+-- ---- and its count of steps
+module _ (f : Format) (g : Fair f) (l x y z : ℕ) (ox : Ordinary f x) (oy : Ordinary f y) (oz : Ordinary f z) where
+  fused-terms : (ax ay az : ℕ) → Normal f x ax → Normal f y ay → Normal f z az
+      → Terms (2 ^ f .frac) (productSig f x y) (thirdSig f z) (ax + ay) (az + (f .frac + low f)) (first f x y) (second f z) (finer f) (aboveBy f x y z)
+  fused-terms ax ay az nx ny nz =
+      record {
+        sizes = sized f x y z ax ay az nx ny nz;
+        first = product-whole f x y ax ay nx ny;
+        second = third-whole f z az nz;
+        above = above-is f x y z ax ay az nx ny nz;
+      }
+
+  -- a zero sum of terms that are not zero is +0
+  pub fused-none : fusedSteps f l x y z ≡ 0 → fmaOf f x y z ≡ 0
+  fused-none e =
+      let (ax, nx) = normal-is f g x (ox .least) in
+      let (ay, ny) = normal-is f g y (oy .least) in
+      let (az, nz) = normal-is f g z (oz .least) in
+      total-none f x y z (ox .most) (oy .most) (oz .most) (product-some f x y ox oy) (sum-none l (fused-terms ax ay az nx ny nz) (against f x y z) e)
+
+  -- and any other rounds as its count does
+  pub fused-own : 2 ≤ f .frac → 2 + f .frac ≤ l → 0 < fusedSteps f l x y z
+      → fmaOf f x y z ≡ answer f ties-to-even (fusedSign f l x y z) (scaled (fusedSign f l x y z) (fusedSteps f l x y z) (fusedExp f l x y z))
+  fused-own two room some =
+      let (ax, nx) = normal-is f g x (ox .least) in
+      let (ay, ny) = normal-is f g y (oy .least) in
+      let (az, nz) = normal-is f g z (oz .least) in
+      let t = fused-terms ax ay az nx ny nz in
+      let at = fused-exp f x y z ax ay az nx ny nz l in
+      let c = zeroSign f ties-to-even x y z in
+      total-answer f x y z (ox .most) (oy .most) (oz .most)
+      ∙ ap (λ b. answer f ties-to-even c (dyadic (withSign b (total f x y z)) (low f))) (sum-sign l t (productSign f x y) (minus f z) some)
+      ∙ sum-answer f ties-to-even l (low f) (fusedExp f l x y z) two room t at (against f x y z) c (fusedSign f l x y z) some
+
+-- ---- the product alone
+joined-nothing : (u : Bool) (a : ℕ) → joined u a 0 ≡ a
+joined-nothing false a = omega arith
+joined-nothing true a = omega arith
+
+module _ (f : Format) (g : Fair f) (x y z : ℕ) (ox : Ordinary f x) (oy : Ordinary f y) (none : magnitude f z ≡ 0) where
+  no-second : second f z ≡ 0
+  no-second = omega (arith, times (2 ^ low f) (ap (units f) none ∙ units-zero f))
+
+  total-first : total f x y z ≡ first f x y
+  total-first = ap (joined (against f x y z) (first f x y)) no-second ∙ joined-nothing (against f x y z) (first f x y)
+
+  sign-product : totalSign f x y z ≡ productSign f x y
+  sign-product = sign-first (productSign f x y) (minus f z) (first f x y) (second f z) (omega (arith, no-second))
+
+  -- a product that rounds to zero keeps its sign
+  pub product-alone : fmaOf f x y z
+      ≡ answer f ties-to-even (unlike (minus f x) (minus f y)) (scaled (unlike (minus f x) (minus f y)) (sigOf f x * sigOf f y) (normExpOf f x +ℤ normExpOf f y +ℤ pos (low f)))
+  product-alone =
+      let (ax, nx) = normal-is f g x (ox .least) in
+      let (ay, ny) = normal-is f g y (oy .least) in
+      let s = productSign f x y in
+      let c = zeroSign f ties-to-even x y z in
+      let k : ℕ = f .frac + f .frac in
+      let n : ℤ = normExpOf f x +ℤ normExpOf f y +ℤ pos (low f) in
+      let some : 0 < first f x y = product-some f x y ox oy in
+      total-answer f x y z (ox .most) (oy .most) (omega (arith, ox .most))
+      ∙ (λ i. answer f ties-to-even c (dyadic (withSign (sign-product i) (total-first i)) (low f)))
+      ∙ finer-answer f ties-to-even c s (first f x y) (low f) k some
+      ∙ counted-answer f ties-to-even c s (first f x y * 2 ^ k) (sigOf f x * sigOf f y) (ax + ay) (low f + k) n
+      (omega (arith, times-le (2 ^ k) some, pow-pos k))
+      (omega (arith, addZ (normExpOf f x +ℤ normExpOf f y) (pos (low f)), product-exp f x y ax ay nx ny))
+      (product-counts f x y ax ay nx ny)
+
+  -- the same of twice the product
+  pub product-twice : fmaOf f x y z
+      ≡ answer f ties-to-even (unlike (minus f x) (minus f y)) (scaled (unlike (minus f x) (minus f y)) (productSig f x y) (normExpOf f x +ℤ normExpOf f y +ℤ pos (low f) +ℤ pos 0 -ℤ pos 1))
+  product-twice =
+      let s = unlike (minus f x) (minus f y) in
+      let k = normExpOf f x +ℤ normExpOf f y +ℤ pos (low f) in
+      let e : productSig f x y ≡ sigOf f x * sigOf f y * 2 ^ 1 = omega arith in
+      let n : k +ℤ pos 0 -ℤ pos 1 +ℤ pos 1 ≡ k = eqZ (k +ℤ pos 0 -ℤ pos 1 +ℤ pos 1) k (omega (arith, addZ (k +ℤ pos 0 -ℤ pos 1) (pos 1), subZ (k +ℤ pos 0) (pos 1), addZ k (pos 0))) in
+      product-alone
+      ∙ sym (ap (λ m. answer f ties-to-even s (scaled s m (k +ℤ pos 0 -ℤ pos 1))) e ∙ scaled-moves f ties-to-even s (sigOf f x * sigOf f y) 1 (k +ℤ pos 0 -ℤ pos 1) ∙ ap (λ m. answer f ties-to-even s (scaled s (sigOf f x * sigOf f y) m)) n)

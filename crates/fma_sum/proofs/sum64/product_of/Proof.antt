@@ -1,0 +1,51 @@
+-- The product of the significands, the sum of the places and the sign of the two numbers taken apart (norms), which are small (fusing: Room). Assumes nothing.
+use Prim.Native.Nat.{_*_}
+use mathlib.Core.Path.{_≡_, ap₂, _∙_}
+use native.Mathlib.Omega.{arith}
+use lib.IntN.{_+ℤ_}
+use Rattle.ieee.specs.Format.{b64}
+use Rattle.ieee.specs.Pattern.{unlike}
+use Rattle.ieee.proofs.Formats.{fair64}
+use Rattle.fmt_fields.proofs.Widths.{fits64}
+use Rattle.fmt_decode.specs.Norm.{normExpOf}
+use Rattle.fmt_decode.proofs.Asides.{Ordinary, ordinary}
+use Rattle.fma_laws.proofs.Room.{sig-most, norm-exp-mag, product-small}
+use Rattle.fma_sum.proofs.sum64.product_of.Statement.{statement}
+use Rattle.fma_sum.proofs.sum64.product_of.Tie as tie
+
+module _ (s : tie.Start) where
+  ox : Ordinary b64 (s .args .x)
+  ox = ordinary b64 (s .args .x) (omega arith) (s .pre .0)
+
+  oy : Ordinary b64 (s .args .y)
+  oy = ordinary b64 (s .args .y) (omega arith) (s .pre .1)
+
+returns : tie.Need-returns
+returns c =
+    let n = c .before .before in
+    let m = c .before in
+    let s = n .before in
+    let place : c .multiply64 .result .exp ≡ normExpOf b64 (s .args .x) +ℤ normExpOf b64 (s .args .y) = c .multiply64 .ensures .1 ∙ ap₂ _+ℤ_ (n .norm-of .ensures .1) (m .norm-of2 .ensures .1) in (
+      c .multiply64 .ensures .0 ∙ ap₂ (λ a b. 2 * (a * b)) (n .norm-of .ensures .0) (m .norm-of2 .ensures .0),
+      place,
+      c .multiply64 .ensures .2 ∙ ap₂ unlike (n .norm-of .ensures .2) (m .norm-of2 .ensures .2),
+      rw place (product-small fits64 (s .args .x) (s .args .y) (ox s) (oy s)),
+    )
+
+norm-of-requires : tie.Need-norm-of-requires
+norm-of-requires c κs = (fits64, ox c .least, ox c .most)
+
+norm-of-requires-2 : tie.Need-norm-of-requires-2
+norm-of-requires-2 c κs = (fits64, oy (c .before) .least, oy (c .before) .most)
+
+multiply64-requires : tie.Need-multiply64-requires
+multiply64-requires c κs =
+    let n = c .before in
+    let s = n .before in (
+      omega (arith, n .norm-of .ensures .0, sig-most b64 fair64 (s .args .x) (ox s)),
+      rw (n .norm-of .ensures .1) (norm-exp-mag fits64 (s .args .x) (ox s)),
+      rw (c .norm-of2 .ensures .1) (norm-exp-mag fits64 (s .args .y) (oy s)),
+    )
+
+pub product-of-spec : {M : Type 1} → statement M
+product-of-spec = tie.close (tie.spec norm-of-requires norm-of-requires-2 multiply64-requires returns)

@@ -1,0 +1,48 @@
+-- What goes on is below twice y and has the remainders of x (Routes), and each route gives the remainder. Assumes nothing.
+use Prim.Native.Nat.{ℕ, _*_, _%_, _^_, _<_}
+use mathlib.Core.Path.{_≡_}
+use native.Mathlib.Omega.{arith}
+use borrow.Author.Needs.{needs}
+use Rattle.fmod.proofs.Reductions.{near-is}
+use Rattle.fmod.proofs.routes.reduction64.Statement.{statement}
+use Rattle.fmod.proofs.routes.reduction64.Tie as tie
+
+module _ (c : tie.After-reduce-below-twice) where
+  abbrev s : tie.Start
+  s = c .before
+
+  near : (c .reduce-below-twice .result < 2 * s .args .y) × ((e : ℕ) → c .reduce-below-twice .result * 2 ^ e % s .args .y ≡ s .args .x * 2 ^ e % s .args .y)
+  near = near-is (s .args .x) (s .args .y) (s .pre .0) (c .reduce-below-twice .result) (omega (arith, c .reduce-below-twice .ensures))
+
+returns : tie.Need-returns
+returns c = let o = c .before .before in omega (arith, c .reduce-stepwise64 .ensures, near o .1 (s o .args .e))
+
+returns-2 : tie.Need-returns-2
+returns-2 c = let o = c .before .before .before in omega (arith, c .by-division64 .ensures, near o .1 (s o .args .e))
+
+returns-3 : tie.Need-returns-3
+returns-3 c = let o = c .before .before .before in omega (arith, c .linear-mul-reduction64 .ensures, near o .1 (s o .args .e))
+
+reduce-below-twice-requires : tie.Need-reduce-below-twice-requires
+reduce-below-twice-requires c κs = search needs
+
+reduce-stepwise64-requires : tie.Need-reduce-stepwise64-requires
+reduce-stepwise64-requires c κs = (omega (arith, near (c .before) .0), omega arith)
+
+by-division64-requires : tie.Need-by-division64-requires
+by-division64-requires c κs = (omega (arith, near (c .before .before) .0), omega arith)
+
+linear-mul-reduction64-requires : tie.Need-linear-mul-reduction64-requires
+linear-mul-reduction64-requires c κs = (omega (arith, near (c .before .before) .0), omega arith, omega arith)
+
+pub reduction64-spec : {M : Type 1} → statement M
+reduction64-spec =
+    tie.close
+    (tie.spec
+    reduce-below-twice-requires
+    reduce-stepwise64-requires
+    returns
+    by-division64-requires
+    returns-2
+    linear-mul-reduction64-requires
+    returns-3)

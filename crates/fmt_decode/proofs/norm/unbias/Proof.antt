@@ -1,0 +1,44 @@
+-- The bias and the fraction's bits are small beside a word (fields: Widths). Assumes nothing.
+use Prim.Native.Nat.{_+_, _-_, _^_, _<_, _≤_}
+use mathlib.Core.Path.{ap, _∙_}
+use native.Mathlib.Omega.{arith}
+use borrow.Author.Needs.{needs}
+use lib.IntN.{pos}
+use lib.Pow.{pow-mono, pow-pos}
+use mir.Syntax.{w32}
+use mir.Facts.{toZ-pos}
+use Rattle.fmt_decode.proofs.norm.unbias.Statement.{statement}
+use Rattle.fmt_decode.proofs.norm.unbias.Tie as tie
+
+module _ (c : tie.After-pow) where
+  abbrev s : tie.Start
+  s = c .before
+
+  half-small : c .pow .result ≤ 2 ^ 15
+  half-small = omega (arith, c .pow .ensures, pow-mono {i = s .args .expo - 1} {j = 15} (omega (arith, s .pre .small)))
+
+  sum-small : c .pow .result + s .args .frac - 1 < 2 ^ 31
+  sum-small = omega (arith, half-small, s .pre .word)
+
+returns : tie.Need-returns
+returns c =
+    let s = c .before in
+    toZ-pos w32 (sum-small c) ∙ ap pos (omega (arith, c .pow .ensures, pow-pos (s .args .expo - 1), s .pre .fair .frac-pos))
+
+sub-pow : tie.Need-sub-pow
+sub-pow c = omega (arith, c .pre .fair .expo-two)
+
+pow-requires : tie.Need-pow-requires
+pow-requires c κs = search needs
+
+add-result : tie.Need-add-result
+add-result c = record { fits = omega (arith, half-small c, c .before .pre .word) }
+
+sub-result : tie.Need-sub-result
+sub-result c = omega (arith, c .before .pre .fair .frac-pos)
+
+cast-result : tie.Need-cast-result
+cast-result c = record { sfits = sum-small c }
+
+pub unbias-spec : {M : Type 1} → statement M
+unbias-spec = tie.close (tie.spec sub-pow pow-requires add-result sub-result cast-result returns)

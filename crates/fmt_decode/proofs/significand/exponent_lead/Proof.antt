@@ -1,0 +1,62 @@
+-- Neither step wraps, and what is below zero counts as nothing (exponents: Exponents; algebra: Integers). Assumes nothing.
+use Prim.Native.Nat.{_+_, _^_, _≤_, _<_}
+use mathlib.Core.Path.{_≡_}
+use mathlib.Core.Bool.{true, false}
+use native.Mathlib.Omega.{arith}
+use lib.IntN.{ℤ, pos, _+ℤ_, _-ℤ_}
+use lib.Signed.{ltZ}
+use mir.Syntax.{w32}
+use mir.Val.{SFits}
+use mir.Facts.{toZ-ofZ}
+use Rattle.algebra.proofs.Integers.{up, dn, addZ, subZ, absZ, ltZ-false, magZ-fact, sfitsZ, nonNegZ}
+use Rattle.fmt_exponents.proofs.Exponents.{above-negative, above-not}
+use Rattle.fmt_decode.proofs.significand.exponent_lead.Statement.{statement}
+use Rattle.fmt_decode.proofs.significand.exponent_lead.Tie as tie
+
+module _ (c : tie.Start) where
+  abbrev less : ℤ
+  less = c .args .ex -ℤ c .args .ey
+
+  abbrev far : ℤ
+  far = less +ℤ pos 2
+
+  abbrev parts : up less + dn (c .args .ex) + up (c .args .ey) ≡ dn less + up (c .args .ex) + dn (c .args .ey)
+  parts = subZ (c .args .ex) (c .args .ey)
+
+  abbrev sizes : (up (c .args .ex) < 2 ^ 20) × (dn (c .args .ex) ≤ 2 ^ 20) × (up (c .args .ey) < 2 ^ 20) × (dn (c .args .ey) ≤ 2 ^ 20)
+  sizes = omega (arith, magZ-fact (c .args .ex) (c .pre .0), magZ-fact (c .args .ey) (c .pre .1))
+
+  less-fits : SFits w32 less
+  less-fits = sfitsZ w32 less (omega (arith, parts, sizes)) (omega (arith, parts, sizes))
+
+  far-fits : SFits w32 far
+  far-fits = let a = addZ less (pos 2) in sfitsZ w32 far (omega (arith, parts, sizes)) (omega (arith, parts, sizes))
+
+returns : tie.Need-returns
+returns c =
+    let s = c .before in
+    let t : ltZ (far s) (pos 0) ≡ true = simp (toZ-ofZ, s .fits .ex, s .fits .ey, less-fits s, far-fits s) at (c .if1 .taken) in
+    above-negative (far s) t
+
+-- the test, on the integers
+not-behind : (c : tie.Else1) → ltZ (far (c .before)) (pos 0) ≡ false
+not-behind c = let s = c .before in simp (toZ-ofZ, s .fits .ex, s .fits .ey, less-fits s, far-fits s) at (c .if1 .left)
+
+returns-2 : tie.Need-returns-2
+returns-2 c = let s = c .before in simp (toZ-ofZ, s .fits .ex, s .fits .ey, less-fits s, far-fits s) (above-not (far s) (not-behind c))
+
+sub-far : tie.Need-sub-far
+sub-far c = simp (toZ-ofZ, c .fits .ex, c .fits .ey) (less-fits c)
+
+add-far : tie.Need-add-far
+add-far c = simp (toZ-ofZ, c .fits .ex, c .fits .ey, less-fits c) (far-fits c)
+
+cast-result : tie.Need-cast-result
+cast-result c =
+    let s = c .before in
+    let l = ltZ-false (far s) (pos 0) (not-behind c) in
+    let m = magZ-fact (far s) (far-fits s .sfits) in
+    simp (toZ-ofZ, s .fits .ex, s .fits .ey, less-fits s, far-fits s) (nonNegZ (far s) (omega arith), record { fits = omega (arith, absZ (far s)) })
+
+pub exponent-lead-spec : {M : Type 1} → statement M
+exponent-lead-spec = tie.close (tie.spec sub-far add-far returns cast-result returns-2)

@@ -1,0 +1,3 @@
+pub mod Norm
+pub mod Rows
+pub mod Significand

@@ -1,0 +1,3 @@
+pub mod Decoded
+pub mod Numbers
+pub mod Widths

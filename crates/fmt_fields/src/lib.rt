@@ -1,0 +1,38 @@
+// A pattern taken apart: its exponent field, its fraction, its sign; and put together from a sign and a magnitude.
+ghost use mathlib.Core.Path.{_≡_};
+ghost use Prim.Native.Nat.{_+_, _<_, _^_};
+ghost use Rattle.ieee.specs.Pattern.{minus, field, fraction, signed};
+ghost use Rattle.fmt_fields.specs.Width.{format, Fits};
+use word_bits::pow;
+
+pub mod env;
+pub mod pattern;
+
+pub fn exponent_field(frac: u32, expo: u32, x: u64) -> u64
+    requires { ⌜ Fits frac expo ⌝ }
+    ensures { λ r. ⌜ r ≡ field (format frac expo) x ⌝ }
+{
+    x / pow(frac) % pow(expo)
+}
+
+pub fn fraction_field(frac: u32, expo: u32, x: u64) -> u64
+    requires { ⌜ Fits frac expo ⌝ }
+    ensures { λ r. ⌜ r ≡ fraction (format frac expo) x ⌝ }
+{
+    x % pow(frac)
+}
+
+pub fn is_negative(frac: u32, expo: u32, x: u64) -> bool
+    requires { ⌜ Fits frac expo ⌝ }
+    ensures { λ r. ⌜ r ≡ minus (format frac expo) x ⌝ }
+{
+    x >= pow(frac + expo)
+}
+
+// A magnitude with its sign, as a pattern.
+pub fn with_sign(frac: u32, expo: u32, neg: bool, m: u64) -> u64
+    requires { ⌜ Fits frac expo × (m < 2 ^ (frac + expo)) ⌝ }
+    ensures { λ r. ⌜ r ≡ signed (format frac expo) neg m ⌝ }
+{
+    if neg { pow(frac + expo) + m } else { m }
+}

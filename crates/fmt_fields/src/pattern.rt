@@ -1,0 +1,30 @@
+// Patterns that every format has, infinity's and the canonical NaN; and a pattern without its sign.
+ghost use mathlib.Core.Path.{_≡_};
+ghost use Rattle.ieee.specs.Format.{inf, canonical};
+ghost use Rattle.ieee.specs.Pattern.{magnitude};
+ghost use Rattle.fmt_fields.specs.Width.{format, Fits};
+use word_bits::pow;
+
+// The pattern of infinity.
+pub fn infinity(frac: u32, expo: u32) -> u64
+    requires { ⌜ Fits frac expo ⌝ }
+    ensures { λ r. ⌜ r ≡ inf (format frac expo) ⌝ }
+{
+    pow(frac + expo) - pow(frac)
+}
+
+// The canonical NaN.
+pub fn nan(frac: u32, expo: u32) -> u64
+    requires { ⌜ Fits frac expo ⌝ }
+    ensures { λ r. ⌜ r ≡ canonical (format frac expo) ⌝ }
+{
+    infinity(frac, expo) + pow(frac - 1)
+}
+
+// A pattern without its sign.
+pub fn magnitude_of(frac: u32, expo: u32, x: u64) -> u64
+    requires { ⌜ Fits frac expo ⌝ }
+    ensures { λ r. ⌜ r ≡ magnitude (format frac expo) x ⌝ }
+{
+    x % pow(frac + expo)
+}

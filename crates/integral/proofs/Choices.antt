@@ -1,0 +1,99 @@
+-- What is chosen by the point of a pattern. Assumes nothing.
+use Prim.Native.Nat.{ℕ, suc, _+_, _-_, _*_, _/_, _%_, _^_, _≤_, _<_}
+use mathlib.Core.Path.{_≡_, refl, sym, ap, _∙_}
+use native.Mathlib.Nat.{mod-eq-of-lt}
+use native.Mathlib.Omega.{arith}
+use lib.Pow.{pow-pos, pow-add, pow-mono}
+use borrow.Author.Tests.{lt-ltb, le-ltb}
+use Rattle.algebra.proofs.Products.{order, times, times-le, mul-le-cancel, mul-lt-cancel}
+use Rattle.algebra.proofs.Quotients.{div-mod, mod-is}
+use Rattle.ieee.specs.Format.{Format, top, bias, inf, canonical}
+use Rattle.ieee.specs.Pattern.{magnitude, field}
+use Rattle.ieee.proofs.Patterns.{inf-below-top}
+use Rattle.fmt_fields.specs.Width.{format, Fits}
+use Rattle.fmt_fields.proofs.Decoded.{field-in-word}
+use Rattle.integral.specs.Point.{exponentOf, behindOf, byPoint, tailOf, oneNan, Tail}
+use Rattle.integral.proofs.Masks.{behind-part}
+
+module _ (f : Format) (x a b c : ℕ) where
+  pub at-below : field f x < bias f → byPoint f x a b c ≡ a
+  unfolding byPoint
+  at-below h = rw (lt-ltb (field f x) (bias f) h)
+
+  pub at-part : bias f ≤ field f x → field f x < bias f + f .frac → byPoint f x a b c ≡ b
+  unfolding byPoint
+  at-part l h = rw (le-ltb (field f x) (bias f) l) (rw (lt-ltb (field f x) (bias f + f .frac) h))
+
+  pub at-whole : bias f + f .frac ≤ field f x → byPoint f x a b c ≡ c
+  unfolding byPoint
+  at-whole h = rw (le-ltb (field f x) (bias f) (omega arith)) (rw (le-ltb (field f x) (bias f + f .frac) h))
+
+-- by the three cases
+pub by-cases : (f : Format) (x : ℕ) {G : Type 0} → (field f x < bias f → G) → (bias f ≤ field f x → field f x < bias f + f .frac → G) → (bias f + f .frac ≤ field f x → G) → G
+by-cases f x a b c = order (bias f) (field f x) (λ l. order (bias f + f .frac) (field f x) c (b l)) a
+
+pub past-infinity : (f : Format) (x : ℕ) → inf f < magnitude f x → oneNan f x ≡ canonical f
+unfolding oneNan
+past-infinity f x h = rw (lt-ltb (inf f) (magnitude f x) h)
+
+pub not-past : (f : Format) (x : ℕ) → magnitude f x ≤ inf f → oneNan f x ≡ x
+unfolding oneNan
+not-past f x h = rw (le-ltb (inf f) (magnitude f x) h)
+
+-- ---- by words
+module _ {p e : ℕ} (w : Fits p e) where
+  bias-small : bias (format p e) < 2 ^ 16
+  bias-small = omega (arith, pow-mono {i = e - 1} {j = 16} (omega (arith, w .small)))
+
+  -- from 1 on the exponent does not wrap
+  pub exponent-at : (x : ℕ) → bias (format p e) ≤ field (format p e) x → field (format p e) x ≡ bias (format p e) + exponentOf (format p e) x
+  exponent-at x l = omega (arith, bias-small, field-in-word w x)
+
+  -- the point stands in the fraction exactly where its exponent is less than that has bits
+  pub exponent-part : (x : ℕ) → exponentOf (format p e) x < p → field (format p e) x ≡ bias (format p e) + exponentOf (format p e) x
+  exponent-part x l = omega (arith, bias-small, field-in-word w x, w .word)
+
+  -- so that the choice of masks is a mask
+  pub tail-is : (x : ℕ) → Tail (format p e) x (tailOf (format p e) x)
+  tail-is x =
+      let f = format p e in
+      let a = top f - 1 in
+      let n = exponentOf f x in
+      let b = behindOf p n in
+      by-cases f x
+      (λ h. record {
+        mask = (p + e, omega (arith, at-below f x a b 0 h, pow-pos (p + e)));
+        below = λ l. refl;
+        part = λ l g. absurd (omega arith);
+        whole = λ l. absurd (omega arith);
+      })
+      (λ l h.
+      let i = exponent-at x l in
+      record {
+        mask = (p - n, ap suc (at-part f x a b 0 l h) ∙ behind-part p n (omega (arith, w .word, w .fair .expo-two)) (omega arith));
+        below = λ g. absurd (omega arith);
+        part = λ g o. omega arith;
+        whole = λ g. absurd (omega arith);
+      })
+      (λ h. record { mask = (0, omega (arith, at-whole f x a b 0 h)); below = λ l. absurd (omega arith); part = λ l g. absurd (omega arith); whole = λ l. refl })
+
+  -- the sign shifted out, in a word of 64 bits
+  abbrev room : ℕ
+  room = 64 - (p + e)
+
+  full : 2 ^ (p + e) * 2 ^ room ≡ 2 ^ 64
+  full = let a : p + e + room ≡ 64 = omega (arith, w .word) in sym (pow-add 2 (p + e) room) ∙ ap (λ n. 2 ^ n) a
+
+  sign-out : (x : ℕ) → x * 2 ^ room % 2 ^ 64 ≡ magnitude (format p e) x * 2 ^ room
+  sign-out x =
+      let (d, l) = div-mod x (2 ^ (p + e)) (pow-pos (p + e)) in
+      mod-is (x * 2 ^ room) (2 ^ 64) (x / 2 ^ (p + e)) (magnitude (format p e) x * 2 ^ room) (omega (arith, times-le (2 ^ room) l, full, pow-pos room)) (omega (arith, times (2 ^ room) d, times (x / 2 ^ (p + e)) full))
+
+  inf-out : inf (format p e) * 2 ^ room % 2 ^ 64 ≡ inf (format p e) * 2 ^ room
+  inf-out = sign-out (inf (format p e)) ∙ times (2 ^ room) (mod-eq-of-lt (inf-below-top (format p e)))
+
+  pub past-is-nan : (x i : ℕ) → i ≡ inf (format p e) → i * 2 ^ room % 2 ^ 64 < x * 2 ^ room % 2 ^ 64 → oneNan (format p e) x ≡ canonical (format p e)
+  past-is-nan x i a h = past-infinity (format p e) x (mul-lt-cancel (inf (format p e)) (magnitude (format p e) x) (2 ^ room) (rw (sym a) (omega (arith, sign-out x, inf-out, times (2 ^ room) a))))
+
+  pub rest-stays : (x i : ℕ) → i ≡ inf (format p e) → x * 2 ^ room % 2 ^ 64 ≤ i * 2 ^ room % 2 ^ 64 → oneNan (format p e) x ≡ x
+  rest-stays x i a h = not-past (format p e) x (mul-le-cancel (magnitude (format p e) x) (inf (format p e)) (2 ^ room) (pow-pos room) (rw (sym a) (omega (arith, sign-out x, inf-out, times (2 ^ room) a))))

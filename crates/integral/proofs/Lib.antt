@@ -1,0 +1,5 @@
+mod WholeParts
+mod Scaled
+pub mod Choices
+pub mod Masks
+pub mod Method

@@ -1,0 +1,177 @@
+-- What the code computes is trunc, floor and their status, over the format. Assumes nothing.
+use Prim.Native.Nat.{ℕ, suc, _+_, _-_, _*_, _/_, _%_, _^_, _≤_, _<_}
+use mathlib.Core.Path.{_≡_, refl, sym, ap, _∙_}
+use mathlib.Core.Bool.{true, cond}
+use native.Mathlib.Nat.{mod-eq-of-lt}
+use native.Mathlib.Omega.{arith, both-ways}
+use lib.Pow.{pow-pos, pow-mono}
+use borrow.Author.Tests.{le-leb, lt-leb, lt-ltb, le-ltb}
+use Rattle.algebra.proofs.Products.{order, times, times-le}
+use Rattle.algebra.proofs.Quotients.{div-mod, mod-is}
+use Rattle.ieee.specs.Format.{Format, Fair, top, bias, low, inf, units}
+use Rattle.ieee.specs.Pattern.{Pattern, minus, magnitude, field, signed, finite}
+use Rattle.ieee.specs.Round.{toward-zero, toward-negative, wayOf}
+use Rattle.ieee.specs.Status.{OK, INEXACT}
+use Rattle.ieee.specs.Whole.{whole, truncOf, floorOf, truncStatus}
+use Rattle.ieee.proofs.Units.{units-zero, units-lt}
+use Rattle.ieee.proofs.Fields.{magnitude-fields, fraction-small}
+use Rattle.ieee.proofs.Patterns.{inf-below-top, kind-finite, kind-infinite, kind-nan}
+use Rattle.ieee.proofs.WholeParts.{zero-stays}
+use Rattle.ieee.proofs.Wholes.{longer-one}
+use Rattle.ieee.proofs.WholeStatuses.{trunc-status-rows}
+use Rattle.fmt_fields.specs.Width.{format, Fits}
+use Rattle.integral.specs.Point.{exponentOf, behindOf, byPoint, oneNan, Tail}
+use Rattle.integral.proofs.Masks.{behind-part}
+use Rattle.integral.proofs.Choices.{at-below, at-part, at-whole, by-cases, not-past, exponent-at}
+use Rattle.integral.specs.Floors.{belowOne, filled}
+use Rattle.integral.proofs.Scaled.{longer-scaled}
+use Rattle.integral.proofs.WholeParts.{wholeIn-at, stays, units-one, below-one, far, part-bits, part-cut, shorter-all, shorter-part}
+
+-- ---- trunc
+module _ (f : Format) (g : Fair f) (x b : ℕ) (p : Pattern f x) (t : Tail f x b) where
+  -- a number that has bits behind the point is far from infinity, and no NaN
+  one-number : field f x < bias f + f .frac → oneNan f x ≡ x
+  one-number h = not-past f x (omega (arith, far f g (field f x) h, magnitude-fields f x, fraction-small f x))
+
+  pub trunc-by-tail : oneNan f x / suc b * suc b ≡ truncOf f x
+  unfolding truncOf
+  trunc-by-tail =
+      by-cases f x
+      (λ h.
+      let d : suc b ≡ top f = t .mask .1 ∙ ap (λ k. 2 ^ k) (t .below h) in
+      ap (λ y. y / suc b * suc b) (one-number (omega arith))
+      ∙ ap (λ d. x / d * d) d
+      ∙ omega (arith, div-mod x (top f) (pow-pos (f .frac + f .expo)))
+      ∙ sym (shorter-all f g toward-zero x p refl h))
+      (λ l h.
+      let e = t .part l h in
+      ap (λ y. y / suc b * suc b) (one-number h)
+      ∙ ap (λ d. x / d * d) (t .mask .1)
+      ∙ sym (shorter-part f g toward-zero x (t .mask .0) p refl l (omega arith) e))
+      (λ h.
+      let z : b ≡ 0 = omega (arith, t .mask .1, ap (λ k. 2 ^ k) (t .whole h)) in
+      ap (λ d. oneNan f x / suc d * suc d) z ∙ omega arith ∙ sym (stays f g toward-zero x p h))
+
+  -- ---- the status: what stands behind the point is what trunc takes away
+  trunc-leaves : magnitude f x ≤ inf f → truncOf f x + x % suc b ≡ x
+  trunc-leaves i = omega (arith, trunc-by-tail, ap (λ y. y / suc b * suc b) (not-past f x i), div-mod x (suc b) (omega arith))
+
+  pub nothing-lost : x % suc b ≡ 0 → truncStatus f x ≡ OK
+  nothing-lost z =
+      let s = trunc-status-rows f g in
+      order (suc (magnitude f x)) (inf f)
+      (λ l. s .same x (units f (magnitude f x)) (kind-finite f x l) .1 (omega (arith, trunc-leaves (omega arith))))
+      (λ l. order (magnitude f x) (inf f)
+      (λ i. s .of-infinity x (kind-infinite f x (both-ways (magnitude f x) (inf f) i (omega arith))))
+      (λ i. s .of-nan x (kind-nan f x i)))
+
+  pub something-lost : (x % suc b ≡ 0 → ⊥) → truncStatus f x ≡ INEXACT
+  something-lost z =
+      order (bias f + f .frac) (field f x)
+      (λ h. absurd (z (let e : b ≡ 0 = omega (arith, t .mask .1, ap (λ k. 2 ^ k) (t .whole h)) in ap (λ d. x % suc d) e ∙ omega arith)))
+      (λ h.
+      let l : magnitude f x < inf f = omega (arith, far f g (field f x) h, magnitude-fields f x, fraction-small f x) in
+      trunc-status-rows f g .changed x (units f (magnitude f x)) (kind-finite f x l) .1 (λ e. z (omega (arith, trunc-leaves (omega arith), e))))
+
+-- where the point stands in the fraction, b masks the k bits behind it
+record Part (f : Format) (x b : ℕ) : Type 0 where
+  k : ℕ
+  mask : suc b ≡ 2 ^ k
+  some : 1 ≤ k
+  stands : field f x + k ≡ bias f + f .frac
+
+part-of : {p e : ℕ} → Fits p e → (x : ℕ) → bias (format p e) ≤ field (format p e) x → field (format p e) x < bias (format p e) + p → Part (format p e) x (behindOf p (exponentOf (format p e) x))
+part-of {p} {e} w x l h =
+    let i = exponent-at w x l in
+    let n = exponentOf (format p e) x in
+    record { k = p - n; mask = behind-part p n (omega (arith, w .word, w .fair .expo-two)) (omega arith); some = omega arith; stands = omega arith }
+
+pub one-below-infinity : (f : Format) → Fair f → bias f * 2 ^ f .frac < inf f
+one-below-infinity f g = omega (arith, far f g (bias f) (omega (arith, g .frac-pos)), pow-pos (f .frac))
+
+-- ---- floor: above zero as trunc, and below zero the bits behind the point are filled before the cut
+module _ (f : Format) (g : Fair f) (x : ℕ) (p : Pattern f x) where
+  minus-magnitude : top f ≤ x → magnitude f x + top f ≡ x
+  minus-magnitude l = omega (arith, mod-is x (top f) 1 (x - top f) (omega arith) (omega arith))
+
+  below-bias : field f x < bias f → magnitude f x < bias f * 2 ^ f .frac
+  below-bias h = omega (arith, magnitude-fields f x, fraction-small f x, times-le (2 ^ f .frac) h)
+
+  -- between -1 and -0
+  minus-one : top f < x → field f x < bias f → floorOf f x ≡ top f + bias f * 2 ^ f .frac
+  unfolding floorOf
+  minus-one l h =
+      let b = one-below-infinity f g in
+      let m = minus-magnitude (omega arith) in
+      let c = below-bias h in
+      let s : minus f x ≡ true = le-leb (top f) x (omega arith) in
+      let i = units-lt f {i = 0} {j = magnitude f x} (omega arith) in
+      let u = longer-one (units f (magnitude f x)) (2 ^ low f) (omega (arith, units-zero f)) (below-one f g (magnitude f x) c) in
+      let v = ap (λ t. whole (wayOf toward-negative t) (units f (magnitude f x)) (2 ^ low f)) s ∙ u in
+      wholeIn-at f g toward-negative x (bias f * 2 ^ f .frac) (omega arith) b (units-one f g ∙ omega (arith, times (2 ^ low f) v))
+      ∙ ap (λ t. signed f t (bias f * 2 ^ f .frac)) s
+
+  -- -0 stays
+  minus-zero : x ≡ top f → floorOf f x ≡ x
+  unfolding floorOf
+  minus-zero z =
+      let m : magnitude f x ≡ 0 = omega (arith, minus-magnitude (omega arith)) in
+      zero-stays f toward-negative x p (kind-finite f x (omega (arith, one-below-infinity f g)) ∙ ap finite (ap (units f) m ∙ units-zero f))
+
+  floor-below : field f x < bias f → belowOne f x ≡ floorOf f x
+  unfolding belowOne floorOf
+  floor-below h =
+      order x (top f)
+      (λ l. ap (λ t. cond t (top f + bias f * 2 ^ f .frac) (x - magnitude f x)) (le-ltb (top f) x l)
+      ∙ order (top f) x
+      (λ i. omega (arith, minus-magnitude i) ∙ sym (minus-zero (both-ways x (top f) l i)))
+      (λ i. sym (shorter-all f g toward-negative x p (ap (wayOf toward-negative) (lt-leb (top f) x i)) h)))
+      (λ l. ap (λ t. cond t (top f + bias f * 2 ^ f .frac) (x - magnitude f x)) (lt-ltb (top f) x l) ∙ sym (minus-one l h))
+
+  -- a point in the fraction
+  floor-plus : (b : ℕ) → x < top f → Part f x b → bias f ≤ field f x → x / suc b * suc b ≡ floorOf f x
+  unfolding floorOf
+  floor-plus b l q h =
+      ap (λ d. x / d * d) (q .mask) ∙ sym (shorter-part f g toward-negative x (q .k) p (ap (wayOf toward-negative) (lt-leb (top f) x l)) h (q .some) (q .stands))
+
+  filled-fits : (b : ℕ) → top f ≤ x → Part f x b → bias f ≤ field f x → x + b < 2 * top f
+  filled-fits b l q h =
+      let m = pow-mono {i = q .k} {j = f .frac} (part-bits f g x (q .k) h (q .stands)) in
+      omega (arith, q .mask, minus-magnitude l, magnitude-fields f x, fraction-small f x, far f g (field f x) (omega (arith, q .stands, q .some)), inf-below-top f)
+
+  floor-minus : (b : ℕ) → top f ≤ x → Part f x b → bias f ≤ field f x → (x + b) / suc b * suc b ≡ floorOf f x
+  unfolding floorOf
+  floor-minus b l q h =
+      let s = le-leb (top f) x l in
+      let d : b ≡ 2 ^ q .k - 1 = omega (arith, q .mask) in
+      (λ i. (x + d i) / q .mask i * q .mask i)
+      ∙ sym (part-cut f g toward-negative x (q .k) (2 ^ q .k - 1) p h (q .some) (q .stands) (omega (arith, pow-pos (q .k)))
+      (λ n t z. ap (λ c. whole (wayOf toward-negative c) (n * t) (2 ^ q .k * t)) s ∙ longer-scaled n (2 ^ q .k) t (pow-pos (q .k)) z))
+
+  floor-part : (b : ℕ) → 2 * top f ≤ 2 ^ 64 → Part f x b → bias f ≤ field f x → filled f x b / suc b * suc b ≡ floorOf f x
+  unfolding filled
+  floor-part b w q h =
+      order (top f) x
+      (λ l. ap (λ t. cond t ((x + b) % 2 ^ 64) x / suc b * suc b) (le-leb (top f) x l)
+      ∙ ap (λ y. y / suc b * suc b) (mod-eq-of-lt (omega (arith, filled-fits b l q h)))
+      ∙ floor-minus b l q h)
+      (λ l. ap (λ t. cond t ((x + b) % 2 ^ 64) x / suc b * suc b) (lt-leb (top f) x l) ∙ floor-plus b l q h)
+
+pattern-room : {p e : ℕ} → Fits p e → 2 * top (format p e) ≤ 2 ^ 64
+pattern-room {p} {e} w = omega (arith, pow-mono {i = p + e} {j = 63} (w .word))
+
+-- -1 has a sign, and is below infinity
+pub minus-one-fits : {p e : ℕ} → Fits p e → top (format p e) + bias (format p e) * 2 ^ p < 2 ^ 64
+minus-one-fits {p} {e} w = omega (arith, one-below-infinity (format p e) (w .fair), inf-below-top (format p e), pattern-room w)
+
+pub floor-by-point : {p e : ℕ} → Fits p e → (x : ℕ) → Pattern (format p e) x → let b = behindOf p (exponentOf (format p e) x) in
+    byPoint (format p e) x (belowOne (format p e) x) (filled (format p e) x b / suc b * suc b) (oneNan (format p e) x) ≡ floorOf (format p e) x
+unfolding floorOf
+floor-by-point {p} {e} w x i =
+    let f = format p e in
+    let g = w .fair in
+    let b = behindOf p (exponentOf f x) in
+    by-cases f x
+    (λ h. at-below f x (belowOne f x) (filled f x b / suc b * suc b) (oneNan f x) h ∙ floor-below f g x i h)
+    (λ l h. at-part f x (belowOne f x) (filled f x b / suc b * suc b) (oneNan f x) l h ∙ floor-part f g x i b (pattern-room w) (part-of w x l h) l)
+    (λ h. at-whole f x (belowOne f x) (filled f x b / suc b * suc b) (oneNan f x) h ∙ sym (stays f g toward-negative x i h))

@@ -1,0 +1,2 @@
+pub mod Floors
+pub mod Point

@@ -1,2 +1,0 @@
--- Lemmas that the functions' proofs cite, over whole numbers.
-pub mod Joins

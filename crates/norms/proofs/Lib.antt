@@ -1,2 +1,0 @@
-pub mod Asides
-pub mod Places

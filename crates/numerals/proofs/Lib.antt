@@ -1,2 +1,0 @@
-mod Reading
-mod Writing

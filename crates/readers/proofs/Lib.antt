@@ -1,3 +1,0 @@
-mod Limits
-mod Parts
-pub mod Signs

@@ -1,0 +1,7 @@
+-- A reducer for the divisor n keeps what is left as a product, over words of any width.
+pub mod Bounds
+pub mod Only
+pub mod Rounds
+pub mod Scales
+pub mod Steps
+pub mod Widths

@@ -1,0 +1,2 @@
+pub mod Held32
+pub mod Held64

@@ -1,0 +1,101 @@
+// The reducer on words of 64 bits: what is left of x times 2^k for the divisor n, k below 64, with two products and no division.
+ghost use mathlib.Core.Path.{_≡_};
+ghost use Prim.Native.Nat.{_+_, _*_, _<_, _^_};
+ghost use Rattle.reduce_modular.specs.Held64.{Holds64, held, Reduces64, Stepped64};
+use word_bits::low_bits;
+use word_division::division::div;
+use word_wide::Wide;
+use word_wide::product::mul;
+use word_wide::product::mul_hi;
+use word_wide::product::mul_lo;
+use word_wide::shift::shl;
+use word_wide::sum::add;
+
+// For the divisor n: m is 2n, and with R = 2^64 and RR/2 = qm + r the remainder x is kept as 2xq. The quotient q serves the start alone.
+pub struct Reducer64 {
+    pub m: u64,
+    pub r: u64,
+    pub product: Wide,
+}
+
+// The state after a step, and the quotient that the step took out.
+pub struct Step64 {
+    pub state: Reducer64,
+    pub quotient: u64,
+}
+
+impl Reducer64 {
+    // q has one bit more than a word. Its other bits, f = q - R, and r come of one division, R(R/2 - m) by m.
+    pub fn new(x: u64, n: u64) -> Reducer64
+        requires { ⌜ (2 ^ 61 < n) × (n < 2 ^ 62) × (x < 2 * n) ⌝ }
+        ensures { λ s. ⌜ Holds64 n x s ⌝ }
+    {
+        let m = 2 * n;
+        let d = div(
+            Wide {
+                hi: 0x8000_0000_0000_0000 - m,
+                lo: 0,
+            },
+            m,
+        );
+        let twice = 2 * x;
+        Reducer64 {
+            m: m,
+            r: d.remainder,
+            product: Wide {
+                hi: twice + mul_hi(twice, d.quotient),
+                lo: mul_lo(twice, d.quotient),
+            },
+        }
+    }
+
+    // The remainder so far, below 2n. With u the upper word, m(u + 2) is xR and something below R.
+    pub fn partial_remainder(self) -> u64
+        requires { ⌜ Reduces64 self ⌝ }
+        ensures { λ r. ⌜ r ≡ held self ⌝ }
+    {
+        mul_hi(self.m, self.product.hi + 2)
+    }
+
+    // The remainder times 2^k, less the quotient times n. What of 2xq 2^k passes RR/2 is the quotient a; each RR/2 leaves r.
+    pub fn shift_reduce(self, k: u32) -> Step64
+        requires { ⌜ Reduces64 self × (k < 64) ⌝ }
+        ensures { λ s. ⌜ Stepped64 k self (s .quotient) (s .state) ⌝ }
+    {
+        let a = self.product.hi >> (63 - k);
+        let b = shl(
+            Wide {
+                hi: low_bits(self.product.hi, 63 - k),
+                lo: self.product.lo,
+            },
+            k,
+        );
+        Step64 {
+            state: Reducer64 {
+                m: self.m,
+                r: self.r,
+                product: add(mul(a, self.r), b),
+            },
+            quotient: a,
+        }
+    }
+
+    // The same for k = 63, where the quotient is the upper word, and what is below RR/2 is half the lower word, which is even.
+    pub fn word_reduce(self) -> Step64
+        requires { ⌜ Reduces64 self ⌝ }
+        ensures { λ s. ⌜ Stepped64 63 self (s .quotient) (s .state) ⌝ }
+    {
+        let u = self.product.hi;
+        Step64 {
+            state: Reducer64 {
+                m: self.m,
+                r: self.r,
+                product: Wide {
+                    hi: mul_hi(u, self.r) + self.product.lo / 2,
+                    lo: mul_lo(u, self.r),
+                },
+            },
+            quotient: u,
+        }
+    }
+}

@@ -1,7 +1,0 @@
--- A reducer for the divisor n keeps what is left as a product, over words of any width.
-pub mod Bounds
-pub mod Steps
-pub mod Widths
-pub mod Rounds
-pub mod Scales
-pub mod Only

@@ -1,0 +1,70 @@
+// Long division, a bit of the quotient at a time, of which the last 32 are kept; and the multiple that is nearest.
+ghost use mathlib.Core.Path.{_≡_};
+ghost use Prim.Native.Nat.{_+_, _*_, _/_, _%_, _<_, _^_};
+ghost use Rattle.remquo.specs.Nearest.{goesUp, counted, leftOver};
+
+// What is left below the divisor, and the last 32 bits of the quotient.
+pub struct Division {
+    pub rem: u64,
+    pub quo: u32,
+}
+
+// The nearest multiple: whether it is the next one and not the one below, how far it is, and the last 32 bits of its number.
+pub struct Choice {
+    pub up: bool,
+    pub rest: u64,
+    pub quo: u32,
+}
+
+// One bit: a remainder below twice the divisor, and a quotient whose last bit is still open.
+pub fn divide_bit(rem: u64, div: u64, quo: u32) -> Division
+    requires { ⌜ (rem < 2 * div) × (quo % 2 ≡ 0) ⌝ }
+    ensures { λ r. ⌜ (r .rem ≡ rem % div) × (r .quo ≡ quo + rem / div) ⌝ }
+{
+    if rem < div {
+        return Division { rem, quo };
+    }
+    Division {
+        rem: rem - div,
+        quo: quo + 1,
+    }
+}
+
+// num times 2^n by div. The quotient keeps its last 32 bits: each doubling drops the top one.
+pub fn long_divide(num: u64, div: u64, n: u32) -> Division
+    requires { ⌜ (num < 2 * div) × (div < 2 ^ 63) ⌝ }
+    ensures { λ r. ⌜ (r .rem ≡ num * 2 ^ n % div) × (r .quo ≡ num * 2 ^ n / div % 2 ^ 32) ⌝ }
+{
+    let first = divide_bit(num, div, 0);
+    let mut rem = first.rem;
+    let mut quo = first.quo;
+    let mut left = n;
+    while left > 0 {
+        let next = divide_bit(rem * 2, div, quo % 2147483648 * 2);
+        rem = next.rem;
+        quo = next.quo;
+        left = left - 1;
+    }
+    Division { rem, quo }
+}
+
+// The multiple below, or the next one where that is nearer, or as near and even: twice the remainder is past the divisor, and in a tie an odd quotient's
+// last bit takes it past. The quotient then goes up by one, and wraps where its 32 bits are ones: they are its last 32 bits still.
+pub fn nearest_multiple(rem: u64, div: u64, quo: u32) -> Choice
+    requires { ⌜ (rem < div) × (div < 2 ^ 63) ⌝ }
+    ensures { λ r. ⌜ (r .up ≡ goesUp rem div quo) × (r .rest ≡ leftOver rem div quo) × (r .quo ≡ counted rem div quo % 2 ^ 32) ⌝ }
+{
+    let odd = (quo % 2) as u64;
+    if rem * 2 + odd > div {
+        return Choice {
+            up: true,
+            rest: div - rem,
+            quo: std::num::wrapping_add_u32(quo, 1),
+        };
+    }
+    Choice {
+        up: false,
+        rest: rem,
+        quo,
+    }
+}

@@ -1,0 +1,80 @@
+// remquo: what is left of x by the nearest whole multiple of y, and that multiple's number modulo 2^31.
+ghost use mathlib.Core.Path.{_≡_};
+ghost use mathlib.Core.Bool.{false};
+ghost use Prim.Native.Nat.{_<_};
+ghost use Rattle.ieee.specs.Format.{b64, inf};
+ghost use Rattle.ieee.specs.Pattern.{Pattern, magnitude};
+ghost use Rattle.ieee.specs.Remquo.{remquoOf, quotientOf};
+ghost use Rattle.fmt_fields.specs.Width.{format, Fits};
+ghost use Rattle.fmt_decode.specs.Rows.{noRemainder};
+use crate::answer::Remquo64;
+use crate::division::long_divide;
+use crate::settle::Remquo;
+use crate::settle::settle;
+use fmt_decode::remainder::has_no_remainder;
+use fmt_decode::significand::exponent_lead;
+use fmt_decode::significand::significand_of;
+use fmt_fields::is_negative;
+use fmt_fields::pattern::infinity;
+use fmt_fields::pattern::magnitude_of;
+
+// Two numbers that are not zero. Two exponents below y's, x is less than half of y and all left. One below, it is less than y: the quotient is 0 so far, and y's
+// significand counts twice at the exponent of x. Else the significands are divided, and what is left stands at the exponent of y.
+fn remquo_numbers(frac: u32, expo: u32, x: u64, y: u64) -> Remquo
+    requires { ⌜ Fits frac expo × Pattern (format frac expo) x × (0 < magnitude (format frac expo) x) × (magnitude (format frac expo) x < inf (format frac expo)) × (0 < magnitude (format frac expo) y) × (magnitude (format frac expo) y < inf (format frac expo)) ⌝ }
+    ensures { λ r. ⌜ (r .value ≡ remquoOf (format frac expo) x y) × (r .quotient ≡ quotientOf (format frac expo) x y) ⌝ }
+{
+    let a = significand_of(frac, expo, x);
+    let b = significand_of(frac, expo, y);
+    let far = exponent_lead(a.exp, b.exp);
+    if far == 0 {
+        return Remquo {
+            value: x,
+            quotient: 0,
+        };
+    }
+    let neg = is_negative(frac, expo, x);
+    let differ = neg != is_negative(frac, expo, y);
+    if far == 1 {
+        return settle(frac, expo, neg, differ, a.sig, b.sig * 2, 0, a.exp);
+    }
+    let d = long_divide(a.sig, b.sig, far - 2);
+    settle(frac, expo, neg, differ, d.rem, b.sig, d.quo, b.exp)
+}
+
+// A finite x, and y not a zero: by an infinite y all of x is left, and of a zero too.
+fn remquo_finite(frac: u32, expo: u32, x: u64, y: u64) -> Remquo
+    requires { ⌜ Fits frac expo × Pattern (format frac expo) x × (noRemainder (format frac expo) x y ≡ false) ⌝ }
+    ensures { λ r. ⌜ (r .value ≡ remquoOf (format frac expo) x y) × (r .quotient ≡ quotientOf (format frac expo) x y) ⌝ }
+{
+    if magnitude_of(frac, expo, y) == infinity(frac, expo) {
+        return Remquo {
+            value: x,
+            quotient: 0,
+        };
+    }
+    if magnitude_of(frac, expo, x) == 0 {
+        return Remquo {
+            value: x,
+            quotient: 0,
+        };
+    }
+    remquo_numbers(frac, expo, x, y)
+}
+
+// Where there is no remainder, the canonical NaN.
+pub fn remquo64(x: u64, y: u64) -> Remquo64
+    ensures { λ r. ⌜ (r .value ≡ remquoOf b64 x y) × (r .quotient ≡ quotientOf b64 x y) ⌝ }
+{
+    if has_no_remainder(52, 11, x, y) {
+        return Remquo64 {
+            value: 0x7ff8000000000000,
+            quotient: 0,
+        };
+    }
+    let r = remquo_finite(52, 11, x, y);
+    Remquo64 {
+        value: r.value,
+        quotient: r.quotient,
+    }
+}

@@ -1,0 +1,121 @@
+-- Where the cut of a significand that fills its word stands, by its exponent: four cases. Assumes nothing.
+use Prim.Native.Nat.{ℕ, suc, _+_, _-_, _*_, _/_, _%_, _^_, _≤_, _<_}
+use mathlib.Core.Path.{_≡_, refl, sym, ap, _∙_}
+use native.Mathlib.Omega.{arith}
+use lib.Pow.{pow-pos, pow-mono}
+use lib.IntN.{ℤ, pos, _+ℤ_, _-ℤ_}
+use lib.Signed.{mag}
+use lib.Count.{leadingZeros}
+use Rattle.algebra.proofs.Products.{le-split, times}
+use Rattle.algebra.proofs.Quotients.{div-is}
+use Rattle.algebra.proofs.Integers.{up, dn, addZ, subZ, eqZ-fact, magZ-fact}
+use Rattle.algebra.proofs.Leading.{leading-fills}
+use Rattle.ieee.specs.Format.{Format, inf}
+use Rattle.round_laws.specs.Location.{below, location, part, stretched}
+use Rattle.fmt_fields.specs.Width.{format, Fits}
+use Rattle.round_laws.specs.Aligned.{filledAt, Stands}
+use Rattle.round_laws.proofs.Parts.{all-gone, part-beyond}
+use Rattle.round_laws.proofs.Locations.{Lies, locate-normal, locate-subnormal, locate-over}
+use Rattle.round_laws.proofs.Stretched.{stretched-same, same-lies}
+use Rattle.fmt_fields.proofs.Widths.{four-fields, fills-least, fills-most, extra-bits, kept-small}
+
+-- ---- what normalising leaves: u times 2 ^ n is s times 2 ^ (at - 2 ^ 21), and s fills its word
+pub record Filled (u : ℕ) (n : ℤ) (s at : ℕ) : Type 0 where
+  pub zeros : ℕ
+  pub moved : u * 2 ^ zeros ≡ s
+  pub least : 2 ^ 63 ≤ s
+  pub most : s < 2 ^ 64
+  pub level : at + dn n + zeros ≡ up n + 2 ^ 21
+  pub small : at < 2 ^ 22
+
+pub filled : (u : ℕ) (n : ℤ) (s at : ℕ) → 0 < u → u < 2 ^ 64 → mag n ≤ 2 ^ 20
+    → s ≡ u * 2 ^ leadingZeros 64 u → pos at ≡ n -ℤ pos (leadingZeros 64 u) +ℤ pos (2 ^ 21) → Filled u n s at
+filled u n s at p l m e q =
+    let z = leadingZeros 64 u in
+    let f = leading-fills 64 u p l in
+    let r = magZ-fact n {h = 2 ^ 20 + 1} (omega arith) in
+    let (a, b) = eqZ-fact q in
+    let h : at + dn n + z ≡ up n + 2 ^ 21 = omega (arith, a, b, subZ n (pos z), addZ (n -ℤ pos z) (pos (2 ^ 21))) in
+    record { zeros = z; moved = sym e; least = omega (arith, f .least); most = omega (arith, f .most); level = h; small = omega arith }
+
+-- both lie alike
+pub filled-lies : (f : Format) {u s at : ℕ} {n : ℤ} → Filled u n s at → Lies f (stretched u n) (below f (filledAt s at)) (location f (filledAt s at))
+filled-lies f {u} {s} {at} {n} i =
+    same-lies f (stretched u n) (filledAt s at) (stretched-same u (i .zeros) s n (i .moved) (at - 2 ^ 21) (2 ^ 21 - at) (omega (arith, i .level))) (refl, refl)
+
+-- ---- the four cases
+module _ {p e : ℕ} (w : Fits p e) (s at : ℕ) (l : 2 ^ 63 ≤ s) (m : s < 2 ^ 64) where
+  low-lies : (k : ℕ) → at + k ≡ 2 ^ 21 → 63 - p ≤ k → Lies (format p e) (filledAt s at) (s / 2 ^ k) (part (s % 2 ^ k) (2 ^ k))
+  low-lies k h q =
+      locate-subnormal (format p e) (w .fair) s (at - 2 ^ 21) (2 ^ 21 - at) k
+      (omega (arith, fills-most w s m, pow-mono {i = 63 - p + suc p} {j = k + suc p} (omega arith))) (omega arith)
+
+  pub stands-low : at + (63 - p) < 2 ^ 21 → 2 ^ 21 ≤ at + 64 → Stands p e s at s 0 (2 ^ 21 - at)
+  stands-low h q =
+      let k = 2 ^ 21 - at in
+      let (a, b) = low-lies k (omega arith) (omega arith) in
+      record {
+        lower = omega (arith, a);
+        part-is = sym b;
+        fields = omega (arith, four-fields w);
+        least = omega arith;
+        most = omega arith;
+        kept = kept-small w s k m (omega arith);
+      }
+
+  -- all of it is less than half of a unit, as one bit is
+  pub stands-nothing : at + 64 < 2 ^ 21 → Stands p e s at 1 0 64
+  stands-nothing h =
+      let k = 2 ^ 21 - at in
+      let (a, b) = low-lies k (omega arith) (omega arith) in
+      let (q, r) = all-gone s k (omega arith) (omega (arith, pow-mono {i = 65} {j = k} (omega arith))) in
+      record {
+        lower = omega (arith, a, q);
+        part-is = sym (b ∙ r);
+        fields = omega (arith, four-fields w);
+        least = omega arith;
+        most = omega arith;
+        kept = omega (arith, pow-pos p);
+      }
+
+  pub stands-normal : (c : ℕ) → at + (63 - p) ≡ c + 2 ^ 21 → c + 3 ≤ 2 ^ e → Stands p e s at s c (63 - p)
+  stands-normal c h q =
+      let (a, b) =
+      locate-normal (format p e) (w .fair) (63 - p) s (at - 2 ^ 21) (2 ^ 21 - at) c (fills-least w s l) (fills-most w s m) (omega arith) (omega arith) in
+      record {
+        lower = sym a;
+        part-is = sym b;
+        fields = omega arith;
+        least = omega (arith, w .word, w .fair .expo-two);
+        most = omega arith;
+        kept = kept-small w s (63 - p) m (omega arith);
+      }
+
+  -- past the largest finite number, as a significand of ones under the last exponent
+  pub stands-over : (c : ℕ) → at + (63 - p) ≡ c + 2 ^ 21 → 2 ^ e < c + 3 → Stands p e s at (2 ^ 64 - 1) (2 ^ e - 3) (63 - p)
+  stands-over c h q =
+      let X = 63 - p in
+      let (a, b) = locate-over (format p e) (w .fair) X s (at - 2 ^ 21) (2 ^ 21 - at) c (fills-least w s l) (omega arith) (omega (arith, four-fields w)) in
+      let four : 4 ≤ 2 ^ X = pow-mono {i = 2} {j = X} (omega (arith, w .word, w .fair .expo-two)) in
+      let (d, r) : ((2 ^ 64 - 1) / 2 ^ X ≡ 2 * 2 ^ p - 1) × ((2 ^ 64 - 1) % 2 ^ X ≡ 2 ^ X - 1) = ones-located in
+      record {
+        lower = ap (λ n. (2 ^ e - 3) * 2 ^ p + n) d ∙ last-pattern ∙ sym a;
+        part-is = ap (λ n. part n (2 ^ X)) r ∙ part-beyond (2 ^ X - 1) (2 ^ X) (omega arith) ∙ sym b;
+        fields = omega (arith, four-fields w);
+        least = omega (arith, w .word, w .fair .expo-two);
+        most = omega arith;
+        kept = omega (arith, d, pow-pos p);
+      }
+    where
+      ones-located : ((2 ^ 64 - 1) / 2 ^ (63 - p) ≡ 2 * 2 ^ p - 1) × ((2 ^ 64 - 1) % 2 ^ (63 - p) ≡ 2 ^ (63 - p) - 1)
+      ones-located =
+          let (t, u) = le-split {a = 1} {b = 2 * 2 ^ p} (omega (arith, pow-pos p)) in
+          let i : 2 * 2 ^ p - 1 ≡ t = omega arith in
+          rw i (div-is (2 ^ 64 - 1) (2 ^ (63 - p)) t (2 ^ (63 - p) - 1) (omega (arith, pow-pos (63 - p))) (omega (arith, pow-pos (63 - p), extra-bits w, times (2 ^ (63 - p)) u)))
+
+      last-pattern : (2 ^ e - 3) * 2 ^ p + (2 * 2 ^ p - 1) ≡ inf (format p e) - 1
+      last-pattern =
+          let (t, u) = le-split {a = 3} {b = 2 ^ e} (omega (arith, four-fields w)) in
+          let i : 2 ^ e - 3 ≡ t = omega arith in
+          let j : 2 ^ e - 1 ≡ t + 2 = omega arith in
+          rw (i, j) (omega (arith, pow-pos p))

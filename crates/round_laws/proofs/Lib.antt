@@ -1,0 +1,6 @@
+pub mod Choices
+pub mod Locations
+pub mod Halves
+pub mod Parts
+pub mod Alignments
+pub mod Stretched

@@ -1,0 +1,37 @@
+-- Rounding in two steps: the cut finds the finite magnitude below and the location above it, and the choice takes that magnitude or the next. Assumes nothing.
+use Prim.Native.Nat.{ℕ, suc, _+_, _*_, _%_, _^_}
+use mathlib.Core.Bool.{cond}
+use lib.Dec.{leb, ltb, eqb}
+use lib.IntN.{ℤ, pos, negsuc}
+use Rattle.ieee.specs.Format.{Format, units}
+use Rattle.ieee.specs.Exact.{Exact, ratio, over, under}
+use Rattle.ieee.specs.Round.{Way, even, away, shorter, longer, middle, rounded}
+
+-- the greatest finite magnitude not above x
+unfoldable pub below : Format → Exact → ℕ
+unfolding rounded
+below f x = rounded f shorter x
+
+-- where x lies from the magnitude m up: 0 at m, 1 before the middle between m and the next, 2 at the middle, 3 past it
+abbrev pub locationAbove : Format → ℕ → Exact → ℕ
+locationAbove f m x = cond (under x (2 * units f m)) 0 (cond (over x (middle f m)) (cond (under x (middle f m)) 2 3) 1)
+
+unfoldable pub location : Format → Exact → ℕ
+unfolding below
+location f x = locationAbove f (below f x) x
+
+-- which of m and the next a way takes, by the location p
+abbrev pub chosen : Way → ℕ → ℕ → ℕ
+chosen even m p = m + cond (ltb 2 (p + m % 2)) 1 0
+chosen away m p = m + cond (leb 2 p) 1 0
+chosen shorter m p = m
+chosen longer m p = m + cond (eqb p 0) 0 1
+
+-- the location of r from 0 up, where d is the next
+abbrev pub part : ℕ → ℕ → ℕ
+part r d = cond (eqb r 0) 0 (cond (leb d (2 * r)) (cond (leb (2 * r) d) 2 3) 1)
+
+-- u times 2 ^ n, exactly
+abbrev pub stretched : ℕ → ℤ → Exact
+stretched u (pos n) = ratio (u * 2 ^ n) 1
+stretched u (negsuc n) = ratio u (2 ^ suc n)

@@ -1,0 +1,3 @@
+// The one rounding step that every rounded operation ends in: a cut, and a choice.
+pub mod choose;
+pub mod round;

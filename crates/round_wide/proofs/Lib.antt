@@ -1,0 +1,3 @@
+pub mod Folds
+pub mod Stuck
+pub mod Told

@@ -1,0 +1,62 @@
+-- What a number without its last bits keeps: it marks the number, and rounds as the number does. Assumes nothing.
+use Prim.Native.Nat.{ℕ, zero, suc, _+_, _*_, _/_, _%_, _^_, _≤_, _<_}
+use mathlib.Core.Path.{_≡_, sym, ap, _∙_}
+use mathlib.Core.Bool.{Bool, cond}
+use native.Mathlib.Nat.{two-pow-succ}
+use native.Mathlib.Omega.{arith}
+use borrow.Author.Tests.{ne-eqb}
+use lib.Dec.{eqb}
+use lib.Pow.{pow-pos, pow-add}
+use lib.IntN.{ℤ, pos, negsuc, _+ℤ_}
+use Rattle.algebra.proofs.Products.{order, times-le}
+use Rattle.algebra.proofs.Integers.{addZ}
+use Rattle.algebra.proofs.Quotients.{div-mod, div-is}
+use Rattle.ieee.specs.Format.{Format}
+use Rattle.ieee.specs.Round.{Attribute, answer}
+use Rattle.ieee.specs.Scalbn.{scaled}
+use Rattle.round_step.specs.Mark.{Marks}
+use Rattle.round_step.proofs.Marks.{marks-location, marks-times}
+use Rattle.round_step.proofs.MarkedAnswers.{sticky-answer}
+use Rattle.round_wide.specs.Stuck.{stuck}
+
+-- ---- by whether anything is lost
+pub stuck-exact : (v k : ℕ) → v % 2 ^ k ≡ 0 → stuck v k ≡ v / 2 ^ k
+unfolding stuck
+stuck-exact v k e = ap (λ r. cond (eqb r 0) (v / 2 ^ k) (v / 2 ^ k / 2 * 2 + 1)) e
+
+pub stuck-lost : (v k : ℕ) → 0 < v % 2 ^ k → stuck v k ≡ v / 2 ^ k / 2 * 2 + 1
+unfolding stuck
+stuck-lost v k l = rw (ne-eqb (v % 2 ^ k) 0 (omega arith))
+
+pub stuck-none : (v : ℕ) → stuck v 0 ≡ v
+stuck-none v = let (q, r) = div-is v (2 ^ 0) v 0 (pow-pos 0) (omega arith) in stuck-exact v 0 r ∙ q
+
+pub stuck-marks : (v k : ℕ) → Marks v (2 ^ k) (stuck v k)
+stuck-marks v k =
+    let (e, l) = div-mod v (2 ^ k) (pow-pos k) in
+    marks-location v (2 ^ k) (v / 2 ^ k) (v % 2 ^ k) (stuck v k) (sym e) l (stuck-exact v k) (stuck-lost v k)
+
+-- a number that keeps two bits more than the format does rounds as it did
+pub stuck-answer : (f : Format) (g : Attribute) (t : Bool) (v k : ℕ) (e : ℤ) → 0 < v → 2 ^ (2 + f .frac) ≤ stuck v k
+    → answer f g t (scaled t v e) ≡ answer f g t (scaled t (stuck v k) (e +ℤ pos k))
+stuck-answer f g t v k (pos n) p h =
+    let m : Marks (v * 2 ^ n) (2 ^ (k + n)) (stuck v k) = rw pow-add (marks-times (stuck-marks v k) (2 ^ n) (pow-pos n)) in
+    sticky-answer f g t t (v * 2 ^ n) (stuck v k) (k + n) 0 (pos n +ℤ pos k) (omega (arith, times-le (2 ^ n) p, pow-pos n)) (omega (arith, addZ (pos n) (pos k))) m (λ l. h)
+stuck-answer f g t v k (negsuc n) p h =
+    sticky-answer f g t t v (stuck v k) k (suc n) (negsuc n +ℤ pos k) p (omega (arith, addZ (negsuc n) (pos k))) (stuck-marks v k) (λ l. h)
+
+-- ---- how large it is
+pub stuck-le : (v k : ℕ) → stuck v k ≤ v
+stuck-le v k =
+    let (e, l) = div-mod v (2 ^ k) (pow-pos k) in
+    let m : v / 2 ^ k * 1 ≤ v / 2 ^ k * 2 ^ k = omega (arith, times-le (v / 2 ^ k) (pow-pos k)) in
+    order 1 (v % 2 ^ k) (λ h. omega (arith, stuck-lost v k h)) (λ h. omega (arith, stuck-exact v k (omega arith)))
+
+-- what lost a bit or more is at most half, and the mark
+pub stuck-half : (v k : ℕ) → 0 < k → 2 * stuck v k ≤ v + 2
+stuck-half v zero p = absurd (omega arith)
+stuck-half v (suc k) p =
+    let (e, l) = div-mod v (2 ^ suc k) (pow-pos (suc k)) in
+    let two : 2 ≤ 2 ^ suc k = omega (arith, two-pow-succ k, pow-pos k) in
+    let m : v / 2 ^ suc k * 2 ≤ v / 2 ^ suc k * 2 ^ suc k = omega (arith, times-le (v / 2 ^ suc k) two) in
+    order 1 (v % 2 ^ suc k) (λ h. omega (arith, stuck-lost v (suc k) h)) (λ h. omega (arith, stuck-exact v (suc k) (omega arith)))

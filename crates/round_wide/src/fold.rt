@@ -1,0 +1,56 @@
+// The rounding of a number of two words: folded into one, whose last bit is the sticky mark, and rounded once.
+ghost use mathlib.Core.Path.{_≡_};
+ghost use Prim.Native.Nat.{_-_, _≤_, _<_, _^_};
+ghost use lib.Count.{leadingZeros};
+ghost use lib.IntN.{pos, _+ℤ_};
+ghost use lib.Signed.{mag};
+ghost use Rattle.ieee.specs.Round.{answer, ties-to-even};
+ghost use Rattle.ieee.specs.Scalbn.{scaled};
+ghost use Rattle.fmt_fields.specs.Width.{format, Fits};
+ghost use Rattle.word_wide.specs.Value.{value};
+ghost use Rattle.round_wide.specs.Stuck.{stuck};
+use crate::sticky::set_sticky;
+use round_step::round::round;
+use word_bits::shl_carry;
+use word_wide::Wide;
+
+// A number without its last `down` bits, which left their mark.
+pub struct Folded {
+    pub sig: u64,
+    pub down: u32,
+}
+
+// Two words, of which the high one is not 0, folded into one that has its top bit set. Moved up by the zeros before it, the high word takes what
+// passes the low one, and what stays in the low one is lost.
+pub fn fold(w: Wide) -> Folded
+    requires { ⌜ 0 < w .hi ⌝ }
+    ensures { λ r. ⌜ (r .sig ≡ stuck (value w) (64 - leadingZeros 64 (w .hi))) × (r .down ≡ 64 - leadingZeros 64 (w .hi)) ⌝ }
+{
+    let zeros = u64::leading_zeros(w.hi);
+    let kept = (w.hi << zeros) + shl_carry(w.lo, zeros);
+    let rest = w.lo << zeros;
+    Folded {
+        sig: set_sticky(kept, 0 < rest),
+        down: 64 - zeros,
+    }
+}
+
+// The exponent of what is left of a number that lost its last k bits.
+pub fn add_to_exponent(exp: i32, k: u32) -> i32
+    requires { ⌜ (mag exp ≤ 2 ^ 20) × (k ≤ 2 ^ 21) ⌝ }
+    ensures { λ r. ⌜ r ≡ exp +ℤ pos k ⌝ }
+{
+    exp + k as i32
+}
+
+// w times 2^exp smallest units of a format, with a sign, rounded once.
+pub fn round_wide(frac: u32, expo: u32, neg: bool, w: Wide, exp: i32) -> u64
+    requires { ⌜ Fits frac expo × (mag exp < 2 ^ 20 - 64) ⌝ }
+    ensures { λ r. ⌜ r ≡ answer (format frac expo) ties-to-even neg (scaled neg (value w) exp) ⌝ }
+{
+    if w.hi == 0 {
+        return round(frac, expo, neg, w.lo, exp);
+    }
+    let f = fold(w);
+    round(frac, expo, neg, f.sig, add_to_exponent(exp, f.down))
+}

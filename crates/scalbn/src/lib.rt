@@ -1,0 +1,4 @@
+// scalbn: a number times a power of two, rounded once.
+pub mod classes;
+pub mod moves;
+pub mod scalbn;

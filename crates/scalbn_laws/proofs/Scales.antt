@@ -1,0 +1,204 @@
+-- scalbn by the exponent field and the fraction of x: the rows, the way from one normal number to another, and the rounding step's. Assumes nothing.
+use Prim.Native.Nat.{ℕ, suc, _+_, _-_, _*_, _/_, _%_, _^_, _≤_, _<_, min}
+use mathlib.Core.Path.{_≡_, refl, sym, ap, ap₂, _∙_, subst}
+use mathlib.Core.Bool.{Bool, true, false, cond}
+use native.Mathlib.Nat.{two-pow-succ}
+use native.Mathlib.Omega.{arith}
+use lib.Arith.{digits-lt}
+use lib.Pow.{pow-add, pow-pos, pow-mono}
+use lib.Dec.{eqb}
+use lib.IntN.{ℤ, pos, negsuc, _+ℤ_}
+use lib.Signed.{mag}
+use borrow.Author.Tests.{eq-eqb, ne-eqb}
+use Rattle.algebra.proofs.Products.{order, times, times-le}
+use Rattle.algebra.proofs.Quotients.{div-mod}
+use Rattle.algebra.proofs.Integers.{up, dn, addZ, eqZ, eqZ-fact}
+use Rattle.ieee.specs.Format.{Format, Fair, inf, units, canonical}
+use Rattle.ieee.specs.Pattern.{Pattern, minus, magnitude, field, fraction, signed}
+use Rattle.ieee.specs.Exact.{ratio}
+use Rattle.ieee.specs.Round.{Attribute, ties-to-even, even, answer}
+use Rattle.ieee.specs.Scalbn.{scaled, reach, clamp, scalbnBy, scalbnIn, scalbnOf}
+use Rattle.ieee.proofs.Units.{units-at, units-lt}
+use Rattle.ieee.proofs.Patterns.{signed-is, infinity-top, canonical-pattern}
+use Rattle.ieee.proofs.Fields.{magnitude-fields, fraction-small, field-small, units-of-fields, field-finite, kind-by-field, infinite-by-field, nan-by-field}
+use Rattle.ieee.proofs.Decide.{split, eqb-reads}
+use Rattle.ieee.proofs.Exacts.{sign-own, answer-held}
+use Rattle.ieee.proofs.Attributes.{answer-pattern}
+use Rattle.ieee.proofs.Scalbns.{clamp-alike}
+use Rattle.fmt_fields.specs.Width.{format, Fits}
+use Rattle.round_step.proofs.Scaled.{scaled-alike, scaled-moves, answer-chosen}
+use Rattle.round_laws.specs.Location.{part, stretched, chosen}
+use Rattle.round_laws.proofs.Locations.{Lies, locate-over, locate-subnormal}
+use Rattle.round_laws.proofs.Parts.{all-gone}
+use Rattle.fmt_fields.proofs.Widths.{fields-small}
+use Rattle.fmt_fields.proofs.Decoded.{fields-normal, units-subnormal, units-normal}
+use Rattle.fmt_exponents.specs.Field.{above, depthOf}
+use Rattle.scalbn_laws.specs.Normal.{Normal, fullOf, movedTo}
+use Rattle.fmt_exponents.proofs.Exponents.{clamp-mag}
+
+module _ (f : Format) (x : ℕ) (n : ℤ) where
+  scalbn-infinite : field f x ≡ 2 ^ f .expo - 1 → fraction f x ≡ 0 → scalbnOf f x n ≡ x
+  unfolding scalbnOf scalbnIn scalbnBy
+  scalbn-infinite h e = ap (scalbnBy f ties-to-even x n) (infinite-by-field f x h e)
+
+  scalbn-nan : field f x ≡ 2 ^ f .expo - 1 → 0 < fraction f x → scalbnOf f x n ≡ canonical f
+  unfolding scalbnOf scalbnIn scalbnBy
+  scalbn-nan h l = ap (scalbnBy f ties-to-even x n) (nan-by-field f x h l)
+
+  pub scalbn-special : field f x ≡ 2 ^ f .expo - 1 → cond (eqb (fraction f x) 0) x (canonical f) ≡ scalbnOf f x n
+  scalbn-special h =
+      split (eqb-reads (fraction f x) 0)
+      (λ e. rw (eq-eqb (fraction f x) 0 e) (sym (scalbn-infinite h e)))
+      (λ m. rw (ne-eqb (fraction f x) 0 m) (sym (scalbn-nan h (omega arith))))
+
+  pub scalbn-finite : field f x < 2 ^ f .expo - 1 →
+      scalbnOf f x n ≡ answer f ties-to-even (minus f x) (scaled (minus f x) (units f (magnitude f x)) (clamp (reach f) n))
+  unfolding scalbnOf scalbnIn scalbnBy
+  scalbn-finite h = ap (scalbnBy f ties-to-even x n) (kind-by-field f x h)
+
+pub scalbn-unclamped : (f : Format) → Fair f → (x : ℕ) (n : ℤ) → field f x < 2 ^ f .expo - 1 → scalbnOf f x n ≡ answer f ties-to-even (minus f x) (scaled (minus f x) (units f (magnitude f x)) n)
+scalbn-unclamped f g x n h = scalbn-finite f x n h ∙ clamp-alike f g ties-to-even (minus f x) (units f (magnitude f x)) n (units-lt f (field-finite f x h))
+
+-- what the format holds comes back
+scaled-held : (f : Format) (a : Attribute) (s : Bool) (u m : ℕ) (n : ℤ) → m < inf f → u * 2 ^ up n ≡ units f m * 2 ^ dn n → answer f a s (scaled s u n) ≡ signed f s m
+scaled-held f a s u m n l e =
+    let i : up n + 0 ≡ up n = omega arith in
+    let j : 0 + dn n ≡ dn n = omega arith in
+    scaled-alike f a s u (units f m) n (pos 0) (ap (λ k. u * 2 ^ k) i ∙ e ∙ ap (λ k. units f m * 2 ^ k) (sym j))
+    ∙ answer-held f a s s m 0 l (sign-own s (units f m * 2 ^ 0) 0)
+
+module _ (f : Format) (x : ℕ) (n : ℤ) where
+  -- the field moves, and the fraction stays
+  pub moved-held : (t : ℕ) → 0 < field f x → 0 < t → t < 2 ^ f .expo - 1 → pos t ≡ n +ℤ pos (field f x) → Pattern f x
+      → answer f ties-to-even (minus f x) (scaled (minus f x) (units f (magnitude f x)) n) ≡ x - field f x * 2 ^ f .frac + t * 2 ^ f .frac
+  moved-held t p q h e r =
+      let F = field f x in
+      let r′ = fraction f x in
+      let U = 2 ^ f .frac in
+      let small = fraction-small f x in
+      let m : ℕ = t * U + r′ in
+      let ux : units f (magnitude f x) ≡ (U + r′) * 2 ^ (F - 1) = units-of-fields f x ∙ fields-normal f F r′ p in
+      let um : units f m ≡ (U + r′) * 2 ^ (t - 1) = units-at f t r′ small ∙ fields-normal f t r′ q in
+      let (a, b) = eqZ-fact e in
+      let level : 2 ^ (F - 1) * 2 ^ up n ≡ 2 ^ (t - 1) * 2 ^ dn n =
+      sym (pow-add 2 (F - 1) (up n)) ∙ ap (λ k. 2 ^ k) (omega (arith, a, b, addZ n (pos F))) ∙ pow-add 2 (t - 1) (dn n) in
+      scaled-held f ties-to-even (minus f x) (units f (magnitude f x)) m n (digits-lt h small)
+      (omega (arith, times (2 ^ up n) ux, times (2 ^ dn n) um, times (U + r′) level))
+      ∙ omega (arith, signed-is f x r, magnitude-fields f x)
+
+-- ---- subnormal numbers and zeros, through the rounding step
+pub scalbn-subnormal : (f : Format) → Fair f → (x : ℕ) (n : ℤ) → field f x ≡ 0 →
+    answer f ties-to-even (minus f x) (scaled (minus f x) (fraction f x) (clamp (reach f) n)) ≡ scalbnOf f x n
+scalbn-subnormal f g x n h =
+    let few = pow-mono {i = 2} {j = f .expo} (g .expo-two) in
+    sym (scalbn-finite f x n (omega arith) ∙ ap (λ u. answer f ties-to-even (minus f x) (scaled (minus f x) u (clamp (reach f) n))) (units-subnormal f x h))
+
+-- ---- normal numbers: the field moves, or the value is too great, or it falls below the least normal number
+module _ (f : Format) (g : Fair f) (x : ℕ) (n : ℤ) (i : Normal f x) where
+  pub scalbn-moved : (t : ℕ) → Pattern f x → movedTo f x n ≡ pos t → 0 < t → t < 2 ^ f .expo - 1 → x - field f x * 2 ^ f .frac + t * 2 ^ f .frac ≡ scalbnOf f x n
+  scalbn-moved t p e q h = sym (scalbn-unclamped f g x n (i .most) ∙ moved-held f x n t (i .least) q h (sym e) p)
+
+  -- the answer by the cut of the significand
+  location-answer : (m p : ℕ) → Lies f (stretched (fullOf f x) (n +ℤ pos (field f x - 1))) m p → scalbnOf f x n ≡ signed f (minus f x) (chosen even m p)
+  location-answer m p (b, q) =
+      let s = minus f x in
+      scalbn-unclamped f g x n (i .most)
+      ∙ ap (λ u. answer f ties-to-even s (scaled s u n)) (units-normal f x (i .least))
+      ∙ scaled-moves f ties-to-even s (fullOf f x) (field f x - 1) n
+      ∙ answer-chosen f g ties-to-even s (fullOf f x) (n +ℤ pos (field f x - 1))
+      ∙ (λ k. signed f s (chosen even (b k) (q k)))
+
+  -- the exponent of the significand
+  less-one : (z : ℤ) → up z + dn (movedTo f x n) + 1 ≡ dn z + up (movedTo f x n) → n +ℤ pos (field f x - 1) ≡ z
+  less-one z e =
+      eqZ (n +ℤ pos (field f x - 1)) z (omega (arith, addZ n (pos (field f x)), addZ n (pos (field f x - 1)), i .least))
+
+  pub scalbn-over : (t : ℕ) → movedTo f x n ≡ pos t → 2 ^ f .expo - 1 ≤ t → signed f (minus f x) (chosen even (inf f - 1) 3) ≡ scalbnOf f x n
+  scalbn-over t e k =
+      let few = pow-mono {i = 2} {j = f .expo} (g .expo-two) in
+      let (a, b) = eqZ-fact e in
+      let z = less-one (pos (t - 1)) (omega arith) in
+      let none : f .frac ≡ 0 + f .frac = omega arith in
+      let low : 2 ^ (0 + f .frac) ≤ fullOf f x = subst (λ j. 2 ^ j ≤ fullOf f x) none (omega arith) in
+      let c = locate-over f g 0 (fullOf f x) (t - 1) 0 (t - 1) low (omega arith) (omega arith) in
+      sym (location-answer (inf f - 1) 3 (subst (λ y. Lies f (stretched (fullOf f x) y) (inf f - 1) 3) (sym z) c))
+
+  -- k bits fall below the smallest unit
+  low-lies : (k : ℕ) → Lies f (ratio (fullOf f x) (2 ^ k)) (fullOf f x / 2 ^ k) (part (fullOf f x % 2 ^ k) (2 ^ k))
+  low-lies k =
+      let one : fullOf f x * 2 ^ 0 ≡ fullOf f x = omega arith in
+      let room = pow-mono {i = suc (f .frac)} {j = k + suc (f .frac)} (omega arith) in
+      subst (λ u. Lies f (ratio u (2 ^ k)) (fullOf f x / 2 ^ k) (part (fullOf f x % 2 ^ k) (2 ^ k))) one
+      (locate-subnormal f g (fullOf f x) 0 k k (omega (arith, fraction-small f x, two-pow-succ (f .frac))) (omega arith))
+
+  low-answer : (j d : ℕ) → n +ℤ pos (field f x - 1) ≡ negsuc j → d ≡ min (suc j) 64 → fullOf f x < 2 ^ 63 →
+      signed f (minus f x) (chosen even (fullOf f x / 2 ^ d) (part (fullOf f x % 2 ^ d) (2 ^ d))) ≡ scalbnOf f x n
+  low-answer j d z e h =
+      order (suc j) 64
+      (λ l. let q : d ≡ suc j = omega arith in rw q (sym (here (fullOf f x / 2 ^ suc j) (part (fullOf f x % 2 ^ suc j) (2 ^ suc j)) (low-lies (suc j)))))
+      (λ l.
+      let q : d ≡ 64 = omega arith in
+      let some : 0 < fullOf f x = omega (arith, pow-pos (f .frac)) in
+      let (a, b) = all-gone (fullOf f x) 64 some (omega arith) in
+      let (u, v) = all-gone (fullOf f x) (suc j) some (omega (arith, pow-mono {i = 64} {j = suc j} (omega arith))) in
+      let (m, p) = low-lies (suc j) in
+      rw q (ap₂ (λ k r. signed f (minus f x) (chosen even k r)) a b ∙ sym (here 0 1 (m ∙ u, p ∙ v))))
+    where
+      here : (m p : ℕ) → Lies f (ratio (fullOf f x) (2 ^ suc j)) m p → scalbnOf f x n ≡ signed f (minus f x) (chosen even m p)
+      here m p c = location-answer m p (subst (λ y. Lies f (stretched (fullOf f x) y) m p) (sym z) c)
+
+  pub scalbn-low : (d : ℕ) → above (movedTo f x n) ≡ 0 → d ≡ depthOf (movedTo f x n) → fullOf f x < 2 ^ 63 →
+      signed f (minus f x) (chosen even (fullOf f x / 2 ^ d) (part (fullOf f x % 2 ^ d) (2 ^ d))) ≡ scalbnOf f x n
+  scalbn-low d a e h = go (movedTo f x n) refl a e
+    where
+      go : (z : ℤ) → movedTo f x n ≡ z → above z ≡ 0 → d ≡ depthOf z → signed f (minus f x) (chosen even (fullOf f x / 2 ^ d) (part (fullOf f x % 2 ^ d) (2 ^ d))) ≡ scalbnOf f x n
+      go (pos t) w b q = let (u, v) = eqZ-fact w in low-answer 0 d (less-one (negsuc 0) (omega arith)) (omega arith) h
+      go (negsuc t) w b q = let (u, v) = eqZ-fact w in low-answer (suc t) d (less-one (negsuc (suc t)) (omega arith)) (omega arith) h
+
+-- ---- what fits in a word
+module _ {p e : ℕ} (w : Fits p e) where
+  -- what is left of a significand that loses its last bits
+  pub fallen-room : (x k : ℕ) → 1 ≤ k → fullOf (format p e) x / 2 ^ k < inf (format p e)
+  fallen-room x k l =
+      let S = fullOf (format p e) x in
+      let (d, r) = div-mod S (2 ^ k) (pow-pos k) in
+      let two = pow-mono {i = 1} {j = k} l in
+      let half : S / 2 ^ k * 2 ≤ S = omega (arith, times-le (S / 2 ^ k) two) in
+      let few = pow-mono {i = 2} {j = e} (w .fair .expo-two) in
+      omega (arith, half, fraction-small (format p e) x, infinity-top (format p e), pow-add 2 p e, times-le (2 ^ p) few, pow-pos p)
+
+  -- x is its sign, its field and its fraction
+  parts-sum : (x : ℕ) → Pattern (format p e) x → (s : ℕ) × (s ≤ 2 ^ (p + e)) × (x ≡ s + field (format p e) x * 2 ^ p + fraction (format p e) x)
+  parts-sum x h =
+      let f = format p e in
+      (cond (minus f x) (2 ^ (p + e)) 0, sign-le (minus f x), omega (arith, signed-is f x h, magnitude-fields f x))
+    where
+      sign-le : (b : Bool) → cond b (2 ^ (p + e)) 0 ≤ 2 ^ (p + e)
+      sign-le true = omega arith
+      sign-le false = omega arith
+
+  pub field-below : (x : ℕ) → Pattern (format p e) x → field (format p e) x * 2 ^ p ≤ x
+  field-below x h = let (s, l, q) = parts-sum x h in omega arith
+
+  pub moved-room : (x t : ℕ) → Pattern (format p e) x → t < 2 ^ e → x - field (format p e) x * 2 ^ p + t * 2 ^ p < 2 ^ 64
+  moved-room x t h l =
+      let (s, k, q) = parts-sum x h in
+      let m = pow-mono {i = p + e} {j = 63} (w .word) in
+      omega (arith, pow-add 2 p e, times-le (2 ^ p) l, fraction-small (format p e) x)
+
+  pub reach-in-word : 2 ^ e + p < 2 ^ 17
+  reach-in-word = omega (arith, fields-small w, w .word)
+
+  pub near-small : (n : ℤ) {m : ℤ} → m ≡ clamp (2 ^ e + p) n → mag m < 2 ^ 18
+  near-small n h = rw h (omega (arith, clamp-mag (2 ^ e + p) n, reach-in-word))
+
+-- every answer is a pattern
+pub scalbn-pattern : (f : Format) → Fair f → (x : ℕ) (n : ℤ) → Pattern f x → Pattern f (scalbnOf f x n)
+scalbn-pattern f g x n h =
+    order (suc (field f x)) (2 ^ f .expo - 1)
+    (λ l. rw (scalbn-finite f x n l) (answer-pattern f g ties-to-even (minus f x) (scaled (minus f x) (units f (magnitude f x)) (clamp (reach f) n))))
+    (λ l. subst (Pattern f) (scalbn-special f x n (omega (arith, field-small f x))) (either (eqb (fraction f x) 0)))
+  where
+    either : (b : Bool) → Pattern f (cond b x (canonical f))
+    either true = h
+    either false = canonical-pattern f

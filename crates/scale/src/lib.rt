@@ -1,2 +1,0 @@
-// Scaling by a power of two.
-pub mod scalbn;

@@ -1,0 +1,27 @@
+-- What has a root is a number above zero (Asides). Assumes nothing.
+use mathlib.Core.Path.{sym, _∙_}
+use borrow.Author.Needs.{needs}
+use Rattle.fmt_fields.specs.Width.{format}
+use Rattle.sqrt.proofs.Asides.{rooted-above}
+use Rattle.sqrt.proofs.sqrt.sqrt_pattern.Statement.{statement}
+use Rattle.sqrt.proofs.sqrt.sqrt_pattern.Tie as tie
+
+sqrt-by-digits-requires : tie.Need-sqrt-by-digits-requires
+sqrt-by-digits-requires c κs =
+    let s = c .before .before in
+    (s .pre .0, rooted-above (format (s .args .frac) (s .args .expo)) (s .args .x) (sym (c .before .has-no-root .ensures) ∙ c .if1 .left))
+
+returns-2 : tie.Need-returns-2
+returns-2 c = search needs
+
+sqrt-special-requires : tie.Need-sqrt-special-requires
+sqrt-special-requires c κs = let s = c .before .before in (s .pre .0, s .pre .1, sym (c .before .has-no-root .ensures) ∙ c .if1 .taken)
+
+returns : tie.Need-returns
+returns c = search needs
+
+has-no-root-requires : tie.Need-has-no-root-requires
+has-no-root-requires c κs = search needs
+
+pub sqrt-pattern-spec : {M : Type 1} → statement M
+sqrt-pattern-spec = tie.close (tie.spec has-no-root-requires sqrt-special-requires returns sqrt-by-digits-requires returns-2)

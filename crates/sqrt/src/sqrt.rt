@@ -1,0 +1,150 @@
+// sqrt: the square root, rounded once.
+ghost use mathlib.Core.Path.{_≡_};
+ghost use mathlib.Core.Bool.{true};
+ghost use Rattle.ieee.specs.Format.{b64, b32};
+ghost use Rattle.ieee.specs.Pattern.{Pattern};
+ghost use Rattle.ieee.specs.Sqrt.{sqrtOf, sqrtStatus};
+ghost use Rattle.fmt_fields.specs.Width.{format, Fits};
+ghost use Rattle.sqrt.specs.Classes.{rootless, setAside};
+use fmt_fields::env::FpResult32;
+use fmt_fields::env::FpResult64;
+use fmt_fields::pattern::infinity;
+use fmt_fields::pattern::nan;
+use sqrt_number::sqrt_by_digits;
+use sqrt_number::sqrt_normal32;
+use sqrt_number::sqrt_normal64;
+use sqrt_number::sqrt_number32;
+use sqrt_number::sqrt_number64;
+use word_bits::pow;
+
+// Whether x is a zero, subnormal, infinite, a NaN or negative. All other patterns run from that of the smallest normal number up to infinity's: less the
+// smallest, what was below it wraps to the far side of infinity, where NaNs and negative operands are.
+fn set_aside(frac: u32, expo: u32, x: u64) -> bool
+    requires { ⌜ Fits frac expo ⌝ }
+    ensures { λ r. ⌜ r ≡ setAside (format frac expo) x ⌝ }
+{
+    let least = pow(frac);
+    let inf = infinity(frac, expo);
+    std::num::wrapping_sub_u64(x, least) >= inf - least
+}
+
+// Whether no root is taken: the same without the subnormal numbers, by the pattern less one.
+fn has_no_root(frac: u32, expo: u32, x: u64) -> bool
+    requires { ⌜ Fits frac expo ⌝ }
+    ensures { λ r. ⌜ r ≡ rootless (format frac expo) x ⌝ }
+{
+    let inf = infinity(frac, expo);
+    std::num::wrapping_sub_u64(x, 1) >= inf - 1
+}
+
+// Each of those by itself: zeros and +infinity are their own roots, the others are NaNs or below zero.
+fn sqrt_special(frac: u32, expo: u32, x: u64) -> u64
+    requires { ⌜ Fits frac expo × Pattern (format frac expo) x × (rootless (format frac expo) x ≡ true) ⌝ }
+    ensures { λ r. ⌜ r ≡ sqrtOf (format frac expo) x ⌝ }
+{
+    let top = pow(frac + expo);
+    let inf = infinity(frac, expo);
+    if x % top == 0 {
+        return x;
+    }
+    if x == inf {
+        return x;
+    }
+    nan(frac, expo)
+}
+
+// The root of every pattern of any format, by the plain root of a whole number.
+pub fn sqrt_pattern(frac: u32, expo: u32, x: u64) -> u64
+    requires { ⌜ Fits frac expo × Pattern (format frac expo) x ⌝ }
+    ensures { λ r. ⌜ r ≡ sqrtOf (format frac expo) x ⌝ }
+{
+    if has_no_root(frac, expo, x) {
+        return sqrt_special(frac, expo, x);
+    }
+    sqrt_by_digits(frac, expo, x)
+}
+
+// INVALID for a NaN and for what is below zero: all that is past infinity but -0.
+fn status_of(frac: u32, expo: u32, x: u64) -> u32
+    requires { ⌜ Fits frac expo × Pattern (format frac expo) x ⌝ }
+    ensures { λ r. ⌜ r ≡ sqrtStatus (format frac expo) x ⌝ }
+{
+    let top = pow(frac + expo);
+    let inf = infinity(frac, expo);
+    if x <= inf {
+        return fmt_fields::env::OK;
+    }
+    if x == top {
+        return fmt_fields::env::OK;
+    }
+    fmt_fields::env::INVALID
+}
+
+// What is set aside, by the table where it has a root.
+fn sqrt_aside64(x: u64) -> u64
+    ensures { λ r. ⌜ r ≡ sqrtOf b64 x ⌝ }
+{
+    if has_no_root(52, 11, x) {
+        return sqrt_special(52, 11, x);
+    }
+    sqrt_number64(x)
+}
+
+fn sqrt_aside32(x: u32) -> u32
+    ensures { λ r. ⌜ r ≡ sqrtOf b32 x ⌝ }
+{
+    if has_no_root(23, 8, x as u64) {
+        return sqrt_special(23, 8, x as u64) as u32;
+    }
+    sqrt_number32(x as u64)
+}
+
+// Most operands are told by the one comparison.
+pub fn sqrt64(x: u64) -> u64
+    ensures { λ r. ⌜ r ≡ sqrtOf b64 x ⌝ }
+{
+    if set_aside(52, 11, x) {
+        return sqrt_aside64(x);
+    }
+    sqrt_normal64(x)
+}
+
+pub fn sqrt64_status(x: u64) -> FpResult64
+    ensures { λ r. ⌜ (r .val ≡ sqrtOf b64 x) × (r .status ≡ sqrtStatus b64 x) ⌝ }
+{
+    FpResult64 {
+        val: sqrt64(x),
+        status: status_of(52, 11, x),
+    }
+}
+
+pub fn sqrt32(x: u32) -> u32
+    ensures { λ r. ⌜ r ≡ sqrtOf b32 x ⌝ }
+{
+    if set_aside(23, 8, x as u64) {
+        return sqrt_aside32(x);
+    }
+    sqrt_normal32(x as u64)
+}
+
+pub fn sqrt32_status(x: u32) -> FpResult32
+    ensures { λ r. ⌜ (r .val ≡ sqrtOf b32 x) × (r .status ≡ sqrtStatus b32 x) ⌝ }
+{
+    FpResult32 {
+        val: sqrt32(x),
+        status: status_of(23, 8, x as u64),
+    }
+}
+
+// The status alone, which needs no root.
+pub fn status64(x: u64) -> u32
+    ensures { λ r. ⌜ r ≡ sqrtStatus b64 x ⌝ }
+{
+    status_of(52, 11, x)
+}
+
+pub fn status32(x: u32) -> u32
+    ensures { λ r. ⌜ r ≡ sqrtStatus b32 x ⌝ }
+{
+    status_of(23, 8, x as u64)
+}

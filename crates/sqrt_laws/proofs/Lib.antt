@@ -1,0 +1,5 @@
+pub mod Cubes
+pub mod Roundoffs
+pub mod Lasts
+pub mod Rounds
+pub mod Steps

@@ -1,0 +1,5 @@
+pub mod Halves
+pub mod Joins
+pub mod Rootings
+pub mod Splits
+pub mod Tables

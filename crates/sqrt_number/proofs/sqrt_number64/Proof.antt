@@ -1,0 +1,22 @@
+-- The parts are the number's, and so is their root (Halves). Assumes nothing.
+use native.Mathlib.Omega.{arith}
+use borrow.Author.Needs.{needs}
+use Rattle.fmt_fields.proofs.Widths.{fits64}
+use Rattle.sqrt_number.proofs.Halves.{ready, nearest-answers}
+use Rattle.sqrt_number.proofs.sqrt_number64.Statement.{statement}
+use Rattle.sqrt_number.proofs.sqrt_number64.Tie as tie
+
+by-table64-requires : tie.Need-by-table64-requires
+by-table64-requires c κs = let s = c .before in ready fits64 (s .args .x) (s .pre) _ _ (c .split .ensures) (omega arith)
+
+returns : tie.Need-returns
+returns c =
+    let a = c .before in
+    let s = a .before in
+    nearest-answers fits64 (s .args .x) (s .pre) _ _ (a .split .ensures) (omega arith) (c .by-table64 .result) (c .by-table64 .ensures)
+
+split-requires : tie.Need-split-requires
+split-requires c κs = search needs
+
+pub sqrt-number64-spec : {M : Type 1} → statement M
+sqrt-number64-spec = tie.close (tie.spec split-requires by-table64-requires returns)

@@ -1,0 +1,185 @@
+// The root of a number above zero: the exponent halved, the whole root of the significand, and the rounding.
+ghost use mathlib.Core.Path.{_≡_};
+ghost use mathlib.Core.Bool.{false};
+ghost use Prim.Native.Nat.{_+_, _-_, _*_, _/_, _%_, _≤_, _<_, _^_};
+ghost use lib.Dec.{T};
+ghost use lib.IntN.{pos, negℤ, _+ℤ_};
+ghost use lib.Signed.{leZ, mag};
+ghost use Rattle.ieee.specs.Format.{b64, b32, inf, low};
+ghost use Rattle.ieee.specs.Pattern.{field, magnitude};
+ghost use Rattle.ieee.specs.Round.{answer, ties-to-even};
+ghost use Rattle.ieee.specs.Scalbn.{scaled};
+ghost use Rattle.ieee.specs.Sqrt.{sqrtOf};
+ghost use Rattle.fmt_fields.specs.Width.{format, Fits};
+ghost use Rattle.sqrt_table.specs.Table.{Serves};
+ghost use Rattle.sqrt_number.specs.Split.{lift, halfOf, markedBy, wordOf, nearestOf, Above, Parts, Leads, Ready, Room, NearestRoot};
+use fmt_decode::norm::norm_of;
+use fmt_fields::exponent_field;
+use fmt_fields::fraction_field;
+use round_step::round::round;
+use sqrt_digits::RootFloor;
+use sqrt_digits::floor_root;
+use sqrt_table::root::root24;
+use sqrt_table::root::root53;
+use word_bits::pow;
+
+// A significand, and its exponent, lifted.
+struct Lifted {
+    sig: u64,
+    up: u32,
+}
+
+// The exponent counted from so far down that it is not below zero, so that it is halved as a whole number.
+fn lift_exponent(frac: u32, expo: u32, exp: i32) -> u32
+    requires { ⌜ Fits frac expo × (mag exp < 2 ^ 20) × T (leZ (negℤ (pos (low (format frac expo) + frac))) exp) ⌝ }
+    ensures { λ r. ⌜ pos r ≡ exp +ℤ pos (lift (format frac expo)) ⌝ }
+{
+    (exp + (pow(expo) as i32 + frac as i32)) as u32
+}
+
+// The exponent of the marked root.
+fn halve_exponent(up: u32) -> i32
+    requires { ⌜ up < 2 ^ 20 ⌝ }
+    ensures { λ r. ⌜ r ≡ halfOf up ⌝ }
+{
+    (up / 2) as i32 - 4
+}
+
+// A root with a last bit that says that it is not exact.
+fn mark_inexact(root: u64, exact: bool) -> u64
+    requires { ⌜ root < 2 ^ 63 ⌝ }
+    ensures { λ r. ⌜ r ≡ markedBy root exact ⌝ }
+{
+    if exact { root * 2 } else { root * 2 + 1 }
+}
+
+// A number above zero taken apart.
+fn split(frac: u32, expo: u32, x: u64) -> Lifted
+    requires { ⌜ Fits frac expo × (0 < magnitude (format frac expo) x) × (magnitude (format frac expo) x < inf (format frac expo)) ⌝ }
+    ensures { λ r. ⌜ Parts (format frac expo) x (r .sig) (r .up) ⌝ }
+{
+    let n = norm_of(frac, expo, x);
+    Lifted {
+        sig: n.sig,
+        up: lift_exponent(frac, expo, n.exp),
+    }
+}
+
+// A normal number above zero, whose pattern has both parts as they are.
+fn split_normal(frac: u32, expo: u32, x: u64) -> Lifted
+    requires { ⌜ Fits frac expo × (0 < field (format frac expo) x) ⌝ }
+    ensures { λ r. ⌜ Parts (format frac expo) x (r .sig) (r .up) ⌝ }
+{
+    let sig = pow(frac) + fraction_field(frac, expo, x);
+    let up = exponent_field(frac, expo, x) + pow(expo - 1) + 1;
+    Lifted { sig, up: up as u32 }
+}
+
+// The word whose root is taken: the significand goes up as far as a word allows by a whole number of pairs, one bit further where the exponent is odd.
+fn word_of(frac: u32, sig: u64, up: u32) -> u64
+    requires { ⌜ Leads frac sig ⌝ }
+    ensures { λ r. ⌜ r ≡ wordOf frac sig up ⌝ }
+{
+    sig << (62 - frac + up % 2)
+}
+
+// The step of the table that this word lies in: the six bits after the leading one, and the half of the table by the exponent. The remainder tells the compiler
+// that there are no further steps.
+fn step_of(frac: u32, sig: u64, up: u32) -> u64
+    requires { ⌜ Leads frac sig × (6 ≤ frac) ⌝ }
+    ensures { λ i. ⌜ Serves i (wordOf frac sig up / 2 ^ 32) ⌝ }
+{
+    ((sig >> (frac - 6)) - 64 * (up % 2) as u64) % 128
+}
+
+// A root of any format put together with the halved exponent, and rounded.
+fn round_root(frac: u32, expo: u32, whole: RootFloor, up: u32) -> u64
+    requires { ⌜ Fits frac expo × (whole .root < 2 ^ 60) × (up < 2 ^ 20) ⌝ }
+    ensures { λ r. ⌜ r ≡ answer (format frac expo) ties-to-even false (scaled false (markedBy (whole .root) (whole .exact)) (halfOf up)) ⌝ }
+{
+    round(
+        frac,
+        expo,
+        false,
+        mark_inexact(whole.root, whole.exact),
+        halve_exponent(up),
+    )
+}
+
+// The pattern of the number nearest to a root, where that is a normal number. The next is nearer exactly where the residual is greater than the root: the middle
+// between them has the square root² + root + 1/4.
+fn nearest_to_root(frac: u32, expo: u32, root: u64, rem: u64, up: u32) -> u64
+    requires { ⌜ Fits frac expo × Room (format frac expo) root up ⌝ }
+    ensures { λ r. ⌜ r ≡ nearestOf frac root rem up ⌝ }
+{
+    let below = (up / 2 - 2) as u64 * pow(frac) + root;
+    if rem > root {
+        return below + 1;
+    }
+    below
+}
+
+// A finite number above zero, of any format, by the plain root.
+pub fn sqrt_by_digits(frac: u32, expo: u32, x: u64) -> u64
+    requires { ⌜ Fits frac expo × Above (format frac expo) x ⌝ }
+    ensures { λ r. ⌜ r ≡ sqrtOf (format frac expo) x ⌝ }
+{
+    let s = split(frac, expo, x);
+    round_root(
+        frac,
+        expo,
+        floor_root(word_of(frac, s.sig, s.up), frac + 2),
+        s.up,
+    )
+}
+
+// The root of a significand at a lifted exponent, by the table, at 64 bits and at 32. Each width has one body, so that the compiler lays it out for that width.
+fn by_table64(sig: u64, up: u32) -> u64
+    requires { ⌜ Ready b64 sig up ⌝ }
+    ensures { λ r. ⌜ NearestRoot 52 sig up r ⌝ }
+{
+    let close = root53(word_of(52, sig, up), step_of(52, sig, up));
+    nearest_to_root(52, 11, close.root, close.rem, up)
+}
+
+fn by_table32(sig: u64, up: u32) -> u32
+    requires { ⌜ Ready b32 sig up ⌝ }
+    ensures { λ r. ⌜ NearestRoot 23 sig up r ⌝ }
+{
+    let close = root24(word_of(23, sig, up), step_of(23, sig, up));
+    nearest_to_root(23, 8, close.root, close.rem, up) as u32
+}
+
+// A finite number above zero, by the table.
+pub fn sqrt_number64(x: u64) -> u64
+    requires { ⌜ Above b64 x ⌝ }
+    ensures { λ r. ⌜ r ≡ sqrtOf b64 x ⌝ }
+{
+    let s = split(52, 11, x);
+    by_table64(s.sig, s.up)
+}
+
+pub fn sqrt_number32(x: u64) -> u32
+    requires { ⌜ Above b32 x ⌝ }
+    ensures { λ r. ⌜ r ≡ sqrtOf b32 x ⌝ }
+{
+    let s = split(23, 8, x);
+    by_table32(s.sig, s.up)
+}
+
+// A normal number above zero, by the table: it needs no leading zeros to be counted.
+pub fn sqrt_normal64(x: u64) -> u64
+    requires { ⌜ Above b64 x × (0 < field b64 x) ⌝ }
+    ensures { λ r. ⌜ r ≡ sqrtOf b64 x ⌝ }
+{
+    let s = split_normal(52, 11, x);
+    by_table64(s.sig, s.up)
+}
+
+pub fn sqrt_normal32(x: u64) -> u32
+    requires { ⌜ Above b32 x × (0 < field b32 x) ⌝ }
+    ensures { λ r. ⌜ r ≡ sqrtOf b32 x ⌝ }
+{
+    let s = split_normal(23, 8, x);
+    by_table32(s.sig, s.up)
+}

@@ -1,0 +1,5 @@
+pub mod Arms
+pub mod Rule
+pub mod Steps
+pub mod Sweeps
+pub mod Wholes

@@ -1,2 +1,0 @@
-pub mod Stuck
-pub mod Told

@@ -1,2 +1,0 @@
-pub mod Guess
-pub mod Residual

@@ -1,0 +1,4 @@
+pub mod Digits
+pub mod Fields
+pub mod Placed
+pub mod Written

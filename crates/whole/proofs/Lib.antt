@@ -1,3 +1,0 @@
-mod Scaled
-mod Cuts
-pub mod Method

@@ -1,0 +1,3 @@
+mod Columns
+pub mod Pairs
+pub mod Shifts

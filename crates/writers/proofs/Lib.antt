@@ -1,4 +1,0 @@
-mod Placing
-mod Counting
-mod SignedDigits
-pub mod RoundTrip

@@ -1,2 +1,0 @@
-pub mod Placed
-pub mod Written
