@@ -1,4 +1,4 @@
--- Integers for `omega`: z is `up z - dn z`, one of which is 0, so that each fact on integers is one on whole numbers, which `omega` reads.
+-- Integers for `omega`: z is `up z - dn z`, one of which is 0, so that each fact about integers is one about whole numbers, which `omega` reads.
 -- A goal: `eqZ a b (omega (arith, addZ a b))`. A hypothesis: `omega (arith, leZ-fact a b h)`. Assumes nothing.
 use mathlib.Core.Path.{_≡_, refl, sym, ap, _∙_, subst}
 use mathlib.Core.Bool.{Bool, true, false, not, cond}
@@ -18,7 +18,7 @@ abbrev pub dn : ℤ → ℕ
 dn (pos n) = 0
 dn (negsuc n) = suc n
 
--- ---- what the operations do
+-- ---- the operations
 sub-by : (t : Bool) (a b : ℕ) → (T t → a < b) → (T (not t) → b ≤ a) → up (cond t (negsuc (b - suc a)) (pos (a - b))) + b ≡ dn (cond t (negsuc (b - suc a)) (pos (a - b))) + a
 sub-by true a b f g = omega (arith, f tt)
 sub-by false a b f g = omega (arith, g tt)
@@ -53,7 +53,7 @@ pub absZ : (a : ℤ) → (natAbs a ≡ up a + dn a) × (min (up a) (dn a) ≡ 0)
 absZ (pos n) = omega arith
 absZ (negsuc n) = omega arith
 
--- ---- facts, read
+-- ---- facts
 pub eqZ-fact : {a b : ℤ} → a ≡ b → (up a ≡ up b) × (dn a ≡ dn b)
 eqZ-fact e = (ap up e, ap dn e)
 
@@ -75,14 +75,14 @@ nltZ-fact (pos a) (negsuc b) t = omega arith
 nltZ-fact (negsuc a) (pos b) t = absurd t
 nltZ-fact (negsuc a) (negsuc b) t = omega (arith, nltb→le b a t)
 
--- a test's outcome, as a branch hands it over
+-- the outcome of a test, as a branch hands it over
 pub ltZ-true : (a b : ℤ) → ltZ a b ≡ true → up a + dn b < up b + dn a
 ltZ-true a b e = ltZ-fact a b (subst T (sym e) tt)
 
 pub ltZ-false : (a b : ℤ) → ltZ a b ≡ false → up b + dn a ≤ up a + dn b
 ltZ-false a b e = nltZ-fact a b (subst (λ (t : Bool). T (not t)) (sym e) tt)
 
--- a range: mag z < h is -h ≤ z < h
+-- a range: mag z < h means -h ≤ z < h
 pub magZ-fact : (z : ℤ) {h : ℕ} → mag z < h → (up z < h) × (dn z ≤ h)
 magZ-fact (pos n) l = (l, omega arith)
 magZ-fact (negsuc n) l = (omega arith, l)

@@ -1,4 +1,4 @@
--- A number moved up by its leading zeros fills its word. Assumes nothing.
+-- A number shifted left by its leading zeros fills its word. Assumes nothing.
 use Prim.Native.Nat.{ℕ, suc, _*_, _^_, _≤_, _<_}
 use mathlib.Core.Path.{_≡_, sym, ap, _∙_}
 use native.Mathlib.Nat.{two-pow-succ}
@@ -7,7 +7,7 @@ use lib.Pow.{pow-add, pow-pos}
 use lib.Count.{leadingZeros, leading-top}
 use Rattle.algebra.proofs.Products.{times, times-le}
 
--- a < 2 ^ w is moved up by z, its leading zeros: the top bit is set, and nothing is lost
+-- a < 2 ^ w shifted left by z, its leading zeros: the top bit is set, and no bit is lost
 pub record Fills (w a z : ℕ) : Type 0 where
   pub fewer : z < w
   pub least : 2 ^ w ≤ 2 * (a * 2 ^ z)

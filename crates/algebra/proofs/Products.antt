@@ -1,17 +1,17 @@
--- What `omega` lacks for products: each lemma makes one fact whose monomials `omega` then reads as unknowns, as in `omega (arith, cross h l)`.
+-- What `omega` lacks for products: each lemma yields one fact whose monomials `omega` reads as unknowns, as in `omega (arith, cross h l)`.
 -- Assumes nothing.
 use mathlib.Core.Path.{_≡_, ap}
 use Prim.Native.Nat.{ℕ, zero, suc, _+_, _*_, _-_, _≤_, _<_}
 use native.Mathlib.Nat.{mul-le-mul-right}
 use native.Mathlib.Omega.{arith, by-contra, both-ways}
 
--- by cases on an order; the goal is whatever it stands at: `order a b (λ h. ..) (λ h. ..)`
+-- case analysis on an order: `order a b (λ h. ..) (λ h. ..)`
 pub order : (a b : ℕ) {G : Type 0} → (a ≤ b → G) → (b < a → G) → G
 order zero b f g = f (omega arith)
 order (suc a) zero f g = g (omega arith)
 order (suc a) (suc b) f g = order a b (λ h. f (omega arith)) (λ h. g (omega arith))
 
--- b is a and something
+-- b as a plus a difference
 pub le-split : {a b : ℕ} → a ≤ b → (d : ℕ) × (a + d ≡ b)
 le-split {a} {b} h = (b - a, omega arith)
 
@@ -22,7 +22,7 @@ cross h l =
     let (y, q) = le-split l in
     rw (← p, ← q) (omega arith)
 
--- an equation, an order, times a factor
+-- an equation or an order, times a factor
 pub times : {a b : ℕ} (t : ℕ) → a ≡ b → a * t ≡ b * t
 times t e = ap (λ u. u * t) e
 

@@ -15,7 +15,7 @@ sq-lt a b h = by-contra (suc a) b (λ l. let l′ : b ≤ a = omega arith in ome
 pub sum-below : (p q n : ℕ) → p * p ≤ n → q * q < n → (p + q) * (p + q) < 4 * n
 sum-below p q n a b = omega (arith, amgm p q)
 
--- and of a number at least √n and one above it, above
+-- and of a number at least √n and one above it, above twice √n
 pub sum-above : (p q n : ℕ) → n ≤ p * p → n < q * q → 4 * n < (p + q) * (p + q)
 sum-above p q n a b = omega (arith, product)
   where
@@ -25,7 +25,7 @@ sum-above p q n a b = omega (arith, product)
         (λ l. let s : p ≤ p = omega arith in omega (arith, mul-le-mul s l))
         (λ l. let s : q ≤ q = omega arith in let t : q ≤ p = omega arith in omega (arith, mul-le-mul t s))
 
--- the whole square root of n: there is one, and only one
+-- the whole square root of n: it exists and is unique
 pub record Root (n r : ℕ) : Type 0 where
   pub low : r * r ≤ n
   pub high : n < (r + 1) * (r + 1)

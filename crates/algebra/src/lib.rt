@@ -1,1 +1,1 @@
-// Lemmas on whole numbers and integers: no function.
+// Laws of whole numbers and integers: lemmas, no function.
