@@ -1,9 +1,9 @@
-// Powers of two, and the bits that leave a word when it is shifted: none goes unnoticed, they are given as a number or marked as lost.
+// Powers of two and shifts of a word that keep track of the bits they drop.
 ghost use mathlib.Core.Path.{_≡_};
 ghost use Prim.Native.Nat.{_*_, _/_, _%_, _-_, _<_, _^_};
 ghost use lib.Dec.{ltb};
 
-// A word that was shifted right, and whether a bit that was not 0 left it.
+// A word shifted right, and whether a nonzero bit was dropped.
 pub struct ShiftedWord {
     pub word: u64,
     pub lost: bool,
@@ -17,7 +17,7 @@ pub fn pow(k: u32) -> u64
     1 << k
 }
 
-// What of a * 2^k passes the word: the bits that a shift left by k drops. Two shifts, since for k = 0 one would be by the whole word.
+// The bits of a * 2^k above the word: those that a shift left by k drops. Two shifts, since for k = 0 a single one would be by the whole word.
 pub fn shl_carry(a: u64, k: u32) -> u64
     requires { ⌜ k < 64 ⌝ }
     ensures { λ r. ⌜ r ≡ a * 2 ^ k / 2 ^ 64 ⌝ }
@@ -25,7 +25,7 @@ pub fn shl_carry(a: u64, k: u32) -> u64
     (a >> (63 - k)) >> 1
 }
 
-// What of a / 2^k lies below the word: the bits that a shift right by k drops, at the top of the word that they fall into.
+// The bits of a / 2^k below the word: those that a shift right by k drops, at the top of a word of their own.
 pub fn shr_carry(a: u64, k: u32) -> u64
     requires { ⌜ k < 64 ⌝ }
     ensures { λ r. ⌜ r ≡ a * 2 ^ (64 - k) % 2 ^ 64 ⌝ }
@@ -33,7 +33,7 @@ pub fn shr_carry(a: u64, k: u32) -> u64
     (a << (63 - k)) << 1
 }
 
-// a % 2^k: the bits that a shift right by k drops.
+// a % 2^k: the low bits that a shift right by k drops.
 pub fn low_bits(a: u64, k: u32) -> u64
     requires { ⌜ k < 64 ⌝ }
     ensures { λ r. ⌜ r ≡ a % 2 ^ k ⌝ }
@@ -42,7 +42,7 @@ pub fn low_bits(a: u64, k: u32) -> u64
     a % unit
 }
 
-// a / 2^k for every k. The mark is read from a, which has the bits that leave, and not from the word, which has them no more.
+// a / 2^k for every k. The mark is read from a, which still has the dropped bits.
 pub fn shr_lost(a: u64, k: u32) -> ShiftedWord
     ensures { λ r. ⌜ (r .word ≡ a / 2 ^ k) × (r .lost ≡ ltb 0 (a % 2 ^ k)) ⌝ }
 {

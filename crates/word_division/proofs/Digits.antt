@@ -1,4 +1,4 @@
--- Long division to a base B by a divisor d of two digits, d1 and d0, of which the upper is at least half the base: the digit that d1 alone suggests is at
+-- Long division in base B by a divisor d of two digits, d1 and d0, of which the upper is at least half the base: the digit that d1 alone suggests is at
 -- most two too large, and one comparison tells whether it is too large. Assumes nothing.
 use mathlib.Core.Path.{_≡_, sym, _∙_}
 use Prim.Native.Nat.{ℕ, _+_, _*_, _/_, _%_, _-_, _≤_, _<_, max}
@@ -8,7 +8,7 @@ use lib.Arith.{digits-lt}
 use Rattle.algebra.proofs.Products.{le-split, times, times-le, mul-lt-cancel}
 use Rattle.algebra.proofs.Quotients.{quot-unique, div-mod}
 
--- a step down from q stops at Q, and two steps down from two above end there
+-- a step down from q stops at Q; two steps down from Q + 2 or less end there
 pub step-stays : (Q q : ℕ) → q ≡ Q → q ≡ max Q (q - 1)
 step-stays Q q e = e ∙ sym (max-eq-left (omega arith))
 
@@ -20,7 +20,7 @@ two-steps-end Q q s t l h e f =
     let near : max Q (q - 1) ≤ Q + 1 = max-le (omega arith) (omega arith) in
     f ∙ max-eq-left (omega arith)
 
--- a digit's quotient is a digit
+-- the quotient of a digit step is a digit
 pub quotient-is-digit : (B d h l q r : ℕ) → h < d → l < B → q * d + r ≡ h * B + l → q < B
 quotient-is-digit B d h l q r p g e = mul-lt-cancel q B d (omega (arith, digits-lt p g))
 
@@ -32,7 +32,7 @@ one-over-times-one-under B x y h l =
     let t = times p e in
     omega (arith, mul-le-mul {n₁ = x} {m₁ = y} {n₂ = B + 1} {m₂ = p} h (omega arith))
 
--- the divisor, with an upper digit of at least half the base, and the digit l that follows the part that is divided
+-- the divisor, with an upper digit of at least half the base, and the digit l after the upper part
 module _ (B d l : ℕ) (normal : B ≤ 2 * (d / B)) (next : l < B) where
   abbrev d1 : ℕ
   d1 = d / B
@@ -53,18 +53,18 @@ module _ (B d l : ℕ) (normal : B ≤ 2 * (d / B)) (next : l < B) where
   divisor-positive : 0 < d
   divisor-positive = omega (arith, parts, times-le {a = 1} {b = d1} B (omega arith))
 
-  -- the digit that d1 suggests passes the base by one at the most, and its product with d0 is two digits
+  -- the digit that d1 suggests is at most B + 1, and its product with d0 has two digits
   estimate-le : (q r : ℕ) → q * d1 + r < d → q ≤ B + 1
   estimate-le q r h = let p = mul-lt-cancel q (B + 2) d1 (omega (arith, parts, lower)) in omega arith
 
   pub product-fits : (q r : ℕ) → q * d1 + r < d → q * d0 < B * B
   product-fits q r h = one-over-times-one-under B q d0 (estimate-le q r h) lower
 
-  -- a rest of a digit and more leaves room for that product
+  -- a rest of a digit or more leaves room for that product
   pub large-rest : (q r : ℕ) → q * d1 + r < d → B ≤ r → q * d0 ≤ r * B + l
   large-rest q r h p = omega (arith, product-fits q r h, times-le B p)
 
-  -- the comparison that tells
+  -- the comparison is decisive
   pub not-too-large : (q r : ℕ) → q * d0 ≤ r * B + l → q ≤ number (q * d1 + r) / d
   not-too-large q r h =
       let n = number (q * d1 + r) in
@@ -76,7 +76,7 @@ module _ (B d l : ℕ) (normal : B ≤ 2 * (d / B)) (next : l < B) where
       let n = number (q * d1 + r) in
       mul-lt-cancel (n / d) q d (omega (arith, div-add-mod' n d, times q parts))
 
-  -- the first estimate is no less than the digit, and at most two more
+  -- the first estimate is at least the digit, and at most two more
   pub estimate-ge : (h q r : ℕ) → q * d1 + r ≡ h → r < d1 → number h / d ≤ q
   estimate-ge h q r e p =
       let Q = number h / d in
@@ -91,7 +91,7 @@ module _ (B d l : ℕ) (normal : B ≤ 2 * (d / B)) (next : l < B) where
       let w : q < Q + 3 = mul-lt-cancel q (Q + 3) d (omega (arith, parts, product-fits q r (omega arith), times q parts, times B e, times-le B normal)) in
       omega arith
 
-  -- what the digit leaves is the word w that q * d0 added to wraps back to the rest and the next digit, cut to two digits
+  -- the remainder of the digit is the word w, of two digits, for which q * d0 + w wraps to the rest followed by the next digit
   pub rest-unwraps : (h q r w : ℕ) → d ≤ B * B → q * d1 + r ≡ h → q ≡ number h / d → w < B * B → (w + q * d0) % (B * B) ≡ r * B % (B * B) + l
       → (q * d + w ≡ number h) × (w < d)
   rest-unwraps h q r w f e g p s =

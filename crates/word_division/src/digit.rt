@@ -1,21 +1,21 @@
-// One digit of 32 bits of a quotient: what the upper half of the divisor suggests, brought down until it is right.
+// One 32-bit digit of a quotient: estimated from the upper half of the divisor, then corrected.
 ghost use mathlib.Core.Path.{_≡_};
 ghost use Prim.Native.Nat.{_+_, _*_, _/_, _-_, _≤_, _<_, _^_, max};
 ghost use Rattle.word_division.specs.Estimates.{divided};
 
-// A quotient, and what it leaves.
+// A quotient and its remainder.
 pub struct Divided {
     pub quotient: u64,
     pub remainder: u64,
 }
 
-// A digit that may be too large, and what it leaves of the upper part when only the divisor's upper half is taken that often.
+// A digit that may be too large, and the rest of the upper part: the upper part less digit times the divisor's upper half.
 pub struct Estimate {
     pub digit: u64,
     pub rest: u64,
 }
 
-// How far left a divisor goes until its top bit is set.
+// How far to shift a divisor left to set its top bit.
 pub fn normal_shift(d: u64) -> u32
     requires { ⌜ 0 < d ⌝ }
     ensures { λ r. ⌜ (r < 64) × (2 ^ 63 ≤ d * 2 ^ r) × (d * 2 ^ r < 2 ^ 64) ⌝ }
@@ -23,7 +23,7 @@ pub fn normal_shift(d: u64) -> u32
     u64::leading_zeros(d)
 }
 
-// One less where the digit is too large for d and the next digit l, and the same where it is right. Where rest has passed a digit, it is right.
+// Subtracts one where the digit is too large for d and the next digit l. Where rest is a digit or more, the estimate is right.
 pub fn adjust_estimate(e: Estimate, l: u64, d: u64) -> Estimate
     requires { ⌜ (2 ^ 63 ≤ d) × (l < 2 ^ 32) × (divided e d < d) × ((divided e d * 2 ^ 32 + l) / d ≤ e .digit) ⌝ }
     ensures { λ r. ⌜ (r .digit ≡ max ((divided e d * 2 ^ 32 + l) / d) (e .digit - 1)) × (divided r d ≡ divided e d) ⌝ }
@@ -42,8 +42,8 @@ pub fn adjust_estimate(e: Estimate, l: u64, d: u64) -> Estimate
     }
 }
 
-// One digit of a quotient: h * 2^32 + l by d, which has its top bit set. By the upper half of d alone the digit comes out at most two too large.
-// What is left is below d, so it is reckoned in one word, whatever wraps on the way.
+// One digit of a quotient: h * 2^32 + l by d, which has its top bit set. The upper half of d alone gives a digit that is at most two too large.
+// The remainder is below d, so wrapping arithmetic on one word gives it.
 pub fn quotient_digit(h: u64, l: u64, d: u64) -> Divided
     requires { ⌜ (2 ^ 63 ≤ d) × (l < 2 ^ 32) × (h < d) ⌝ }
     ensures { λ r. ⌜ (r .quotient * d + r .remainder ≡ h * 2 ^ 32 + l) × (r .remainder < d) ⌝ }

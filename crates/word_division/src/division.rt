@@ -1,4 +1,4 @@
-// The quotient and the remainder of a number of two words by a word: long division with two digits of 32 bits.
+// The quotient and the remainder of a two-word number by a word: long division with two digits of 32 bits.
 ghost use mathlib.Core.Path.{_≡_};
 ghost use Prim.Native.Nat.{_+_, _*_, _%_, _<_};
 ghost use Rattle.word_wide.specs.Value.{value};
@@ -8,8 +8,8 @@ use crate::digit::quotient_digit;
 use word_wide::Wide;
 use word_wide::shift::shl;
 
-// a by d, where the quotient is one word. One word alone is the machine's own division. Else both go left until d has its top bit set,
-// which changes no quotient, and the remainder goes back.
+// a by d, where the quotient is one word. A one-word a takes the machine's division. Otherwise both are shifted left until d has its top bit set,
+// which leaves the quotient unchanged, and the remainder is shifted back.
 pub fn div(a: Wide, d: u64) -> Divided
     requires { ⌜ a .hi < d ⌝ }
     ensures { λ r. ⌜ (r .quotient * d + r .remainder ≡ value a) × (r .remainder < d) ⌝ }

@@ -1,3 +1,3 @@
-// The quotient and the remainder of a number of two words by a word.
+// The quotient and the remainder of a two-word number by a word.
 pub mod digit;
 pub mod division;

@@ -1,4 +1,4 @@
--- The product of two numbers of two digits to a base B, column by column. Assumes nothing.
+-- The product of two two-digit numbers in base B, column by column. Assumes nothing.
 use mathlib.Core.Path.{_≡_, ap₂, _∙_}
 use Prim.Native.Nat.{ℕ, _+_, _*_, _/_, _%_, _≤_, _<_}
 use native.Mathlib.Nat.{mul-le-mul, mod-lt, div-add-mod', div-lt-iff-lt-mul}
@@ -7,7 +7,7 @@ use lib.Arith.{digits-lt}
 use Rattle.algebra.proofs.Products.{le-split, times, mul-lt-cancel}
 use Rattle.algebra.proofs.Quotients.{div-is}
 
--- the product of two digits leaves room for two digits more
+-- the product of two digits leaves room for two more digits
 pub product-leaves-room : {x y B : ℕ} → x < B → y < B → x * y + 2 * B ≤ B * B + 1
 product-leaves-room {x} {y} {B} h l =
     let (p, e) = le-split {a = 1} {b = B} (omega arith) in
@@ -20,7 +20,7 @@ pub record Rooms (B a b : ℕ) : Type 0 where
   pub right : a % B * (b / B) + 2 * B ≤ B * B + 1
   pub high : a / B * (b / B) + 2 * B ≤ B * B + 1
 
--- the base is not 0 where any number is below its square
+-- a base whose square exceeds some number is not 0
 base-positive : (B a : ℕ) → a < B * B → 0 < B
 base-positive B a h = mul-lt-cancel 0 B B (omega arith)
 
@@ -40,8 +40,8 @@ digit-products-fit B a b h l =
       high = product-leaves-room a1 b1;
     }
 
--- The middle column is the two mixed products and what the lowest column carries. However it is cut into a digit t and a carry s, the carry completes the
--- upper word and the digit the lower one.
+-- The middle column is the sum of the two mixed products and the carry of the lowest column. However it is split into a digit t and a carry s, the carry completes
+-- the upper word and the digit the lower one.
 pub middle-column-settles-both : (B a b s t : ℕ) → t < B → s * B + t ≡ a / B * (b % B) + a % B * (b / B) + a % B * (b % B) / B
     → (a * b / (B * B) ≡ a / B * (b / B) + s) × (a * b % (B * B) ≡ t * B + a % B * (b % B) % B)
 middle-column-settles-both B a b s t h e =

@@ -1,4 +1,4 @@
--- Numbers of two words to a base B, times and by a power of two. A factor m stands for 2 ^ k where no law of powers is asked for. Assumes nothing.
+-- Two-word numbers in base B, times and by a power of two. A factor m stands for 2 ^ k where no law of powers is needed. Assumes nothing.
 use mathlib.Core.Path.{_≡_}
 use Prim.Native.Nat.{ℕ, _+_, _*_, _/_, _%_, _<_}
 use native.Mathlib.Nat.{mod-lt, div-add-mod', div-lt-iff-lt-mul}
@@ -8,7 +8,7 @@ use Rattle.algebra.proofs.Products.{order, times, times-le, mul-lt-cancel}
 use Rattle.algebra.proofs.Quotients.{div-is, div-mod, mod-is}
 use Rattle.word_wide.proofs.Pairs.{upper-is-word}
 
--- Two words, times m: the upper word takes what passes the lower.
+-- Two words times m: the upper word takes the carry of the lower.
 module _ (B m ah al : ℕ) (fits : (ah * B + al) * m < B * B) where
   upper-stays : ah * m < B
   upper-stays = upper-is-word B (ah * m) ((ah * B + al) * m) (omega arith) fits
@@ -23,7 +23,7 @@ module _ (B m ah al : ℕ) (fits : (ah * B + al) * m < B * B) where
   left-fits h e =
       upper-is-word B h ((ah * B + al) * m) (omega (arith, times B e, times B upper-whole, div-add-mod' (al * m) B)) fits
 
--- and times p, a factor of a word and more: the lower word becomes the upper, whose old bits are none
+-- times p, a factor of a word or more: the lower word becomes the upper, and the old upper word is 0
 module _ (B m p ah al : ℕ) (scaled : m * B ≡ p) (positive : 0 < m) (fits : (ah * B + al) * p < B * B) where
   product-is-word : (ah * B + al) * m < B
   product-is-word = upper-is-word B ((ah * B + al) * m) ((ah * B + al) * p) (omega (arith, times (ah * B + al) scaled)) fits
@@ -38,7 +38,7 @@ module _ (B m p ah al : ℕ) (scaled : m * B ≡ p) (positive : 0 < m) (fits : (
   pub left-by-word : (h : ℕ) → h ≡ al * m % B → h * B + 0 ≡ (ah * B + al) * p
   left-by-word h e = omega (arith, times B e, times B lower-stays, times al scaled, times (B * p) upper-is-zero)
 
--- Two words, by m, where n * m is the base: the lower word takes what falls below the upper.
+-- Two words by m, where n * m is the base: the lower word takes the bits that the upper drops.
 module _ (B m n ah al : ℕ) (base : n * m ≡ B) (positive : 0 < m) (word : al < B) where
   n-positive : 0 < n
   n-positive = mul-lt-cancel 0 n m (omega arith)
@@ -65,7 +65,7 @@ module _ (B m n ah al : ℕ) (base : n * m ≡ B) (positive : 0 < m) (word : al 
   pub rest-is-lower : (ah * B + al) % m ≡ al % m
   rest-is-lower = quotient-and-rest .1
 
--- and by p, a word and more: the upper word is what is left
+-- by p, a word or more: only the upper word remains
 module _ (B m p ah al : ℕ) (scaled : m * B ≡ p) (positive : 0 < m) (word : al < B) where
   by-word : ((ah * B + al) / p ≡ ah / m) × ((ah * B + al) % p ≡ ah % m * B + al)
   by-word =

@@ -1,4 +1,4 @@
-// Numbers of two words, for a language whose widest integer has 64 bits.
+// Two-word numbers: products, sums, comparison and shifts.
 pub mod product;
 pub mod shift;
 pub mod sum;

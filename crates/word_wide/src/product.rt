@@ -1,11 +1,11 @@
-// The product of two words, which has two words: each by itself, and both.
+// The product of two words: each of its words alone, and both.
 ghost use mathlib.Core.Path.{_≡_};
 ghost use Prim.Native.Nat.{_*_, _/_, _%_, _^_};
 ghost use Rattle.word_wide.specs.Value.{value};
 use super::Wide;
 
-// The high word of a * b: by hand in base 2^32, column by column, each carry going to the next. No column passes 64 bits.
-// The compiler knows this order of the four products for one instruction, as it knows that of the low word, so long as each stands in a function of its own.
+// The high word of a * b, column by column in base 2^32, each carry added to the next column. No column exceeds 64 bits.
+// The compiler turns these four products into one instruction, and likewise those of the low word, as long as each word has a function of its own.
 pub fn mul_hi(a: u64, b: u64) -> u64
     ensures { λ r. ⌜ r ≡ a * b / 2 ^ 64 ⌝ }
 {
@@ -19,7 +19,7 @@ pub fn mul_hi(a: u64, b: u64) -> u64
     a1 * b1 + (mid >> 32) + (cross >> 32)
 }
 
-// The low word of a * b: the same columns, of which what passes the word is dropped before it is added.
+// The low word of a * b: the same columns, the bits above the word dropped before the addition.
 pub fn mul_lo(a: u64, b: u64) -> u64
     ensures { λ r. ⌜ r ≡ a * b % 2 ^ 64 ⌝ }
 {

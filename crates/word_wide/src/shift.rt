@@ -1,4 +1,4 @@
-// Shifts of two words, in which no bit goes unnoticed: what leaves a word is carried to the next or marked as lost. Those of one word are handed on (`bits`).
+// Shifts of two words: the bits that leave a word are carried to the next or marked as lost. The shifts of one word are re-exported from `word_bits`.
 ghost use mathlib.Core.Path.{_≡_};
 ghost use Prim.Native.Nat.{_*_, _/_, _%_, _<_, _^_};
 ghost use lib.Dec.{ltb};
@@ -11,7 +11,7 @@ pub use word_bits::shl_carry;
 pub use word_bits::shr_carry;
 pub use word_bits::shr_lost;
 
-// Two words that were shifted right, and whether a bit that was not 0 left them.
+// Two words shifted right, and whether a nonzero bit was dropped.
 pub struct ShiftedWide {
     pub wide: Wide,
     pub lost: bool,
@@ -35,7 +35,7 @@ pub fn shl(a: Wide, k: u32) -> Wide
     }
 }
 
-// a / 2^k for every k, and the mark of what was lost. By a word or more, the whole low word leaves.
+// a / 2^k for every k, with the mark of the dropped bits. For k of a word or more the whole low word is dropped.
 pub fn shr(a: Wide, k: u32) -> ShiftedWide
     ensures { λ r. ⌜ (value (r .wide) ≡ value a / 2 ^ k) × (r .lost ≡ ltb 0 (value a % 2 ^ k)) ⌝ }
 {

@@ -1,11 +1,11 @@
-// The sum, the difference and the order of two numbers of two words.
+// The sum, the difference and the order of two-word numbers.
 ghost use mathlib.Core.Path.{_≡_};
 ghost use Prim.Native.Nat.{_+_, _-_, _≤_, _<_, _^_};
 ghost use lib.Dec.{ltb};
 ghost use Rattle.word_wide.specs.Value.{value};
 use super::Wide;
 
-// a + b, where two words hold it. The low words' sum wraps where it is below either of them, and then one is carried.
+// a + b, where two words hold it. The sum of the low words has wrapped where it is below either of them; then one is carried.
 pub fn add(a: Wide, b: Wide) -> Wide
     requires { ⌜ value a + value b < 2 ^ 128 ⌝ }
     ensures { λ r. ⌜ value r ≡ value a + value b ⌝ }
@@ -23,7 +23,7 @@ pub fn add(a: Wide, b: Wide) -> Wide
     }
 }
 
-// a - b, for b no more than a. Where the low word of b is the larger, one is borrowed.
+// a - b, for b no more than a. Where the low word of b is larger, one is borrowed.
 pub fn sub(a: Wide, b: Wide) -> Wide
     requires { ⌜ value b ≤ value a ⌝ }
     ensures { λ r. ⌜ value r ≡ value a - value b ⌝ }
@@ -40,7 +40,7 @@ pub fn sub(a: Wide, b: Wide) -> Wide
     }
 }
 
-// Whether a is below b: by the high words, and by the low ones where these are equal.
+// Whether a is below b: the high words decide, and the low ones where those are equal.
 pub fn less(a: Wide, b: Wide) -> bool
     ensures { λ r. ⌜ r ≡ ltb (value a) (value b) ⌝ }
 {

@@ -1,4 +1,4 @@
--- `word_bits::shl_carry` meets its contract: its two shifts and k are a word together. Assumes nothing.
+-- `word_bits::shl_carry` meets its contract: its two shifts and k add up to a word. Assumes nothing.
 use native.Mathlib.Omega.{arith}
 use Rattle.word_bits.proofs.TwoShifts.{above-by-shifts}
 use Rattle.word_bits.proofs.shl_carry.Statement.{statement}

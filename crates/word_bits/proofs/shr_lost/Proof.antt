@@ -1,4 +1,4 @@
--- `word_bits::shr_lost` meets its contract: by a word or more the whole number leaves, and by less its rest. Assumes nothing.
+-- `word_bits::shr_lost` meets its contract: a shift by a word or more drops the whole number, a shorter one its remainder. Assumes nothing.
 use mathlib.Core.Path.{_≡_, refl, sym, ap}
 use Prim.Native.Nat.{ℕ, _%_, _^_}
 use native.Mathlib.Omega.{arith}

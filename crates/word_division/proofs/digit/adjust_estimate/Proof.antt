@@ -1,4 +1,4 @@
--- `word_division::digit::adjust_estimate` meets its contract: the comparison tells whether the digit is too large, and is left out where it cannot be. Assumes nothing.
+-- `word_division::digit::adjust_estimate` meets its contract: the comparison tells whether the digit is too large, and is skipped where it cannot be. Assumes nothing.
 use mathlib.Core.Path.{_≡_, refl}
 use Prim.Native.Nat.{ℕ, _+_, _*_, _/_, _%_, _-_, _≤_, _<_, max}
 use native.Mathlib.Omega.{arith, both-ways}
@@ -25,7 +25,7 @@ module _ (s : tie.Start) where
   abbrev rest : ℕ
   rest = s .args .e .rest
 
-  -- the digit that is sought
+  -- the right digit
   abbrev right : ℕ
   right = (divided (s .args .e) d * B + l) / d
 

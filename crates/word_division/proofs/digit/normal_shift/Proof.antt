@@ -1,4 +1,4 @@
--- `word_division::digit::normal_shift` meets its contract: a number moved up by its leading zeros fills its word. Assumes nothing.
+-- `word_division::digit::normal_shift` meets its contract: a number shifted left by its leading zeros fills its word. Assumes nothing.
 use native.Mathlib.Omega.{arith}
 use Rattle.algebra.proofs.Leading.{leading-fills}
 use Rattle.word_division.proofs.digit.normal_shift.Statement.{statement}

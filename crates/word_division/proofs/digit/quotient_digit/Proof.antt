@@ -1,4 +1,4 @@
--- `word_division::digit::quotient_digit` meets its contract: the first estimate is at most two too large, two steps bring it to the digit, and what that leaves is one word.
+-- `word_division::digit::quotient_digit` meets its contract: the first estimate is at most two too large, two steps bring it to the digit, and the remainder is one word.
 -- Assumes nothing.
 use mathlib.Core.Path.{_≡_, refl, ap, _∙_}
 use Prim.Native.Nat.{ℕ, _+_, _*_, _/_, _%_, _-_, _≤_, max}
@@ -39,7 +39,7 @@ module _ (s : tie.Start) where
   normal : B ≤ 2 * (d / B)
   normal = omega (arith, s .pre .0)
 
-  -- the digit, by an upper part
+  -- the digit, given the upper part
   abbrev digit-of : ℕ → ℕ
   digit-of x = (x * B + l) / d
 
@@ -58,7 +58,7 @@ rem-wrapping-sub-u64 c = search needs
 adjust-estimate-requires : tie.Need-adjust-estimate-requires
 adjust-estimate-requires c κs = (c .pre .0, c .pre .1, omega (arith, upper-is c, c .pre .2), low c)
 
--- after the first step: the upper part is the same, and the digit no less than it should be
+-- after the first step: the upper part is the same, and the digit is no less than the right one
 second-upper : (c : tie.After-adjust-estimate) → divided (c .adjust-estimate .result) (c .before .args .d) ≡ c .before .args .h
 second-upper c = c .adjust-estimate .ensures .1 ∙ upper-is (c .before)
 
@@ -73,7 +73,7 @@ adjust-estimate-requires-2 c κs =
     let s = c .before in
     (s .pre .0, s .pre .1, omega (arith, second-upper c, s .pre .2), second-low c)
 
--- after the second: the digit is right
+-- after the second step: the digit is right
 third-upper : (c : tie.After-adjust-estimate2) → divided (c .adjust-estimate2 .result) (c .before .before .args .d) ≡ c .before .before .args .h
 third-upper c = c .adjust-estimate2 .ensures .1 ∙ second-upper (c .before)
 

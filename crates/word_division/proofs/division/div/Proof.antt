@@ -1,4 +1,4 @@
--- `word_division::division::div` meets its contract: two digits of the scaled numbers' quotient are that of the numbers themselves. Assumes nothing.
+-- `word_division::division::div` meets its contract: the two digits of the scaled numbers' quotient are the quotient of the numbers themselves. Assumes nothing.
 use mathlib.Core.Path.{_≡_}
 use Prim.Native.Nat.{ℕ, _*_, _/_, _%_, _^_, _≤_, _<_}
 use native.Mathlib.Nat.{mod-lt}
@@ -23,7 +23,7 @@ returns c =
     let s = c .before .before .before .before in
     lower-word-alone (2 ^ 64) (s .args .d) (s .args .a .hi) (s .args .a .lo) (omega arith) (omega arith)
 
--- the scale, and the divisor when it is scaled
+-- the scale, and the scaled divisor
 module _ (c : tie.After-normal-shift) where
   abbrev s : tie.Start
   s = c .before .before .before
@@ -80,7 +80,7 @@ quotient-digit-requires-2 c κs =
     let w = one .before .before in
     (normal (w .before), mod-lt (w .shl .result .lo) (pow-pos 32), one .quotient-digit .ensures .1)
 
--- each digit is one
+-- each digit is below the base
 first-digit : (c : tie.After-quotient-digit) → c .quotient-digit .result .quotient < 2 ^ 32
 first-digit c =
     let w = c .before .before in

@@ -1,4 +1,4 @@
--- `word_wide::product::mul` meets its contract: quotient and remainder by 2^64 make the product. Assumes nothing.
+-- `word_wide::product::mul` meets its contract: quotient and remainder by 2^64 make up the product. Assumes nothing.
 use Prim.Native.Nat.{ℕ, _^_}
 use native.Mathlib.Omega.{arith}
 use borrow.Author.Needs.{needs}
@@ -12,7 +12,7 @@ mul-hi-requires c κs = search needs
 mul-lo-requires : tie.Need-mul-lo-requires
 mul-lo-requires c κs = search needs
 
--- What `c` knows has numbers whose products are past omega's bound: its name is taken, so that omega reads the goal alone.
+-- The facts of `c` have numbers whose products exceed omega's bound: `c` is shadowed, so that omega reads the goal alone.
 returns : tie.Need-returns
 returns c = rejoined (2 ^ 64) _ _ _ _ (c .before .mul-hi .ensures) (c .mul-lo .ensures) (let c : ℕ = 0 in omega arith)
 

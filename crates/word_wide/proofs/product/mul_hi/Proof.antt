@@ -1,4 +1,4 @@
--- `word_wide::product::mul_hi` meets its contract: its carries are those of the middle column, of which the two words' law speaks. Assumes nothing.
+-- `word_wide::product::mul_hi` meets its contract: its carries are those of the middle column (Columns). Assumes nothing.
 use Prim.Native.Nat.{ℕ, _+_, _*_, _/_, _%_}
 use native.Mathlib.Omega.{arith}
 use Rattle.word_wide.proofs.Columns.{Rooms, digit-products-fit, middle-column-settles-both}

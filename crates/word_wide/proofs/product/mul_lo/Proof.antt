@@ -1,4 +1,4 @@
--- `word_wide::product::mul_lo` meets its contract: its digit is that of the middle column, of which the two words' law speaks. Assumes nothing.
+-- `word_wide::product::mul_lo` meets its contract: its digit is that of the middle column (Columns). Assumes nothing.
 use Prim.Native.Nat.{ℕ, _+_, _*_, _/_, _%_}
 use native.Mathlib.Omega.{arith}
 use borrow.Author.Needs.{needs}

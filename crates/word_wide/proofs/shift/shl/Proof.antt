@@ -1,4 +1,4 @@
--- `word_wide::shift::shl` meets its contract: by a word or more the low word becomes the high one, by less the high word takes what passes the low one.
+-- `word_wide::shift::shl` meets its contract: by a word or more the low word becomes the high one; by less the high word takes the carry of the low one.
 -- Assumes nothing.
 use Prim.Native.Nat.{ℕ, _-_, _^_}
 use native.Mathlib.Omega.{arith}
@@ -27,7 +27,7 @@ shl-carry-requires c κs = search needs
 shl-t9 : tie.Need-shl-t9
 shl-t9 c = search needs
 
--- What `c` knows has numbers past omega's bound: its name is taken, so that omega reads the goal and the fact before it alone.
+-- The facts of `c` have numbers that exceed omega's bound: `c` is shadowed, so that omega reads only the goal and the fact before it.
 add-t10 : tie.Need-add-t10
 add-t10 c =
     let args = c .before .before .before .args in

@@ -1,5 +1,5 @@
--- `word_wide::shift::shr` meets its contract: by a word or more the high word becomes the low one and the whole low word leaves, by less the low word takes
--- what falls below the high one. Assumes nothing.
+-- `word_wide::shift::shr` meets its contract: by a word or more the high word becomes the low one and the whole low word is dropped; by less the low word takes
+-- the bits that the high one drops. Assumes nothing.
 use mathlib.Core.Path.{_≡_, sym, ap, _∙_}
 use Prim.Native.Nat.{ℕ, _+_, _*_, _/_, _%_, _-_, _^_, _<_}
 use native.Mathlib.Omega.{arith}

@@ -1,4 +1,4 @@
--- `word_wide::sum::add` meets its contract: the low words' sum has wrapped where it is below one of them, and two words hold the whole. Assumes nothing.
+-- `word_wide::sum::add` meets its contract: the low words' sum has wrapped where it is below one of them, and two words hold the sum. Assumes nothing.
 use Prim.Native.Nat.{ℕ, _+_, _^_}
 use native.Mathlib.Omega.{arith}
 use borrow.Author.Needs.{needs}

@@ -1,4 +1,4 @@
--- `word_wide::sum::sub` meets its contract: one is borrowed where the low word of b is the larger, and then its high word is the smaller. Assumes nothing.
+-- `word_wide::sum::sub` meets its contract: one is borrowed where the low word of b is larger; then its high word is smaller. Assumes nothing.
 use Prim.Native.Nat.{ℕ, _^_, _<_, _≤_}
 use native.Mathlib.Omega.{arith}
 use borrow.Author.Needs.{needs}
@@ -21,7 +21,7 @@ no-more c =
     let b = s .args .b in
     upper-le (2 ^ 64) (a .hi) (a .lo) (b .hi) (b .lo) (c .before .before .struct-known .given .1 .0 .fits) (s .pre)
 
--- What `c` knows has numbers whose products are past omega's bound: its name is taken, so that omega reads the goal and the fact before it alone.
+-- The facts of `c` have numbers whose products exceed omega's bound: `c` is shadowed, so that omega reads only the goal and the fact before it.
 sub-t4 : tie.Need-sub-t4
 sub-t4 c = let h = less (c .before .before) in let c : ℕ = 0 in omega arith
 
