@@ -1,4 +1,4 @@
--- Zeros, infinities and NaNs, by magnitudes, and the one comparison that finds them. Assumes nothing.
+-- Zeros, infinities and NaNs by magnitude, and the one comparison that finds them. Assumes nothing.
 use Prim.Native.Nat.{ℕ, zero, suc, _+_, _-_, _%_, _^_, _≤_, _<_}
 use mathlib.Core.Path.{_≡_, refl, sym, ap, _∙_}
 use mathlib.Core.Bool.{true, false, true≢false}
@@ -29,7 +29,7 @@ module _ (f : Format) (x : ℕ) where
       go zero l = absurd (omega arith)
       go (suc u) l = refl
 
-  -- and back
+  -- the converse
   pub record Ordinary : Type 0 where
     pub least : 0 < magnitude f x
     pub most : magnitude f x < inf f
@@ -47,7 +47,7 @@ module _ (f : Format) (x : ℕ) where
       order (inf f) (magnitude f x) high
       (λ l. order (magnitude f x) 0 (λ h. none (omega arith)) (λ h. absurd (true≢false (sym e ∙ aside-not h l))))
 
-  -- by words: w is the magnitude less one, and a zero less one is the largest word
+  -- in words: w is the magnitude less one, and a zero less one is the largest word
   pub aside-test : (i w m : ℕ) → i ≡ inf f → 0 < i → m ≡ magnitude f x → (w + 1) % 2 ^ 64 ≡ m → w < 2 ^ 64 → top f < 2 ^ 64 → leb (i - 1) w ≡ aside f x
   aside-test i w m a p b e l g =
       order (i - 1) w

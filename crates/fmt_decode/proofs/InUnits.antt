@@ -1,4 +1,4 @@
--- A significand and an exponent as whole smallest units, by the exponent's sign; what has fewer bits than the fraction is its own magnitude. Assumes nothing.
+-- A significand and an exponent as whole smallest units, by the exponent's sign; a number with fewer bits than the fraction is its own magnitude. Assumes nothing.
 use Prim.Native.Nat.{ℕ, zero, suc, _+_, _-_, _*_, _/_, _^_, _≤_, _<_}
 use mathlib.Core.Path.{_≡_, refl, sym, ap, _∙_}
 use mathlib.Core.Bool.{true, false}
@@ -28,7 +28,7 @@ pub own-magnitude : (f : Format) (s k u : ℕ) → s < 2 * 2 ^ f .frac → s / 2
 own-magnitude f s k u l e h =
     omega arith ∙ exactly-packed f (s / 2 ^ k) 0 u (omega (arith, shr-le s k)) (λ z. absurd (omega arith)) (omega arith) h .0
 
--- where the units have no part below one, they are those that the exponent of the leading bit says: exp is at + 1 - p
+-- where the units are whole, they are those of the exponent of the leading bit: exp is at + 1 - p
 pub units-exact : (p at s r : ℕ) → r * 2 ^ p ≡ s * 2 ^ at → unitsAt s (pos (suc at) -ℤ pos p) ≡ r
 units-exact p at s r e = order p at above-it below-it
   where

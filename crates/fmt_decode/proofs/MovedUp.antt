@@ -1,4 +1,4 @@
--- A number moved up until its leading bit stands in place was moved by the zeros before it. Assumes nothing.
+-- A number shifted left until its leading bit is bit p was shifted by its leading zeros. Assumes nothing.
 use Prim.Native.Nat.{ℕ, suc, _+_, _*_, _^_, _≤_, _<_}
 use mathlib.Core.Path.{_≡_}
 use native.Mathlib.Nat.{two-pow-succ}

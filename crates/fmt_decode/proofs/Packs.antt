@@ -1,4 +1,4 @@
--- A magnitude as a significand and an exponent, over the format: taken apart, and put together. Assumes nothing.
+-- A magnitude as a significand and an exponent, over the format: unpacked and packed. Assumes nothing.
 use Prim.Native.Nat.{ℕ, zero, suc, _+_, _-_, _*_, _/_, _%_, _^_, _≤_, _<_}
 use mathlib.Core.Path.{_≡_, sym, ap, _∙_, subst}
 use native.Mathlib.Nat.{two-pow-succ}
@@ -17,7 +17,7 @@ use Rattle.ieee.proofs.Patterns.{inf-below-top}
 use Rattle.fmt_fields.specs.Width.{format, Fits}
 use Rattle.fmt_fields.proofs.Widths.{extra-bits}
 
--- a significand over d exponent fields, where it has its implicit bit or there are none
+-- a significand over d exponent fields, where it has its implicit bit or d is 0
 pub units-packed : (f : Format) (s d : ℕ) → s < 2 * 2 ^ f .frac → (0 < d → 2 ^ f .frac ≤ s) → units f (s + d * 2 ^ f .frac) ≡ s * 2 ^ d
 units-packed f s d l h =
     order (2 ^ f .frac) s
@@ -31,8 +31,8 @@ units-packed f s d l h =
     low zero h b = ap (units f) (omega arith) ∙ units-at f 0 s b ∙ omega arith
     low (suc d) h b = let k = h (omega arith) in absurd (omega arith)
 
--- ---- taken apart
--- what m is, by the exponent past 1 and the significand
+-- ---- unpacked
+-- m by the exponent field less 1 and the significand
 pub record Apart (f : Format) (m d s : ℕ) : Type 0 where
   pub sum : s + d * 2 ^ f .frac ≡ m
   pub small : s < 2 * 2 ^ f .frac
@@ -77,18 +77,18 @@ apart-low f m U e l =
     let o : pastOne f m ≡ 0 = omega arith in
     (omega arith, omega (arith, times (2 ^ f .frac) o))
 
--- and else the field is 1 at least
+-- any other has a field of at least 1
 pub apart-high : (f : Format) (m U : ℕ) → U ≡ 2 ^ f .frac → U ≤ m → (1 ≤ m / U) × (m / U - 1 ≡ pastOne f m) × ((m / U - 1) * U ≡ pastOne f m * 2 ^ f .frac)
 apart-high f m U e l =
     let (d, r) = div-mod m U (omega (arith, pow-pos (f .frac))) in
     (mul-lt-cancel 0 (m / U) U (omega arith), (λ i. m / e i - 1), (λ i. (m / e i - 1) * e i))
 
--- the exponent past 1 of a magnitude is less than there are fields
+-- the exponent field less 1 is below the number of fields
 pub past-one-small : (f : Format) (m : ℕ) → m < top f → pastOne f m < 2 ^ f .expo
 past-one-small f m l = mul-lt-cancel (pastOne f m) (2 ^ f .expo) (2 ^ f .frac) (omega (arith, apart f m .sum, pow-add 2 (f .frac) (f .expo)))
 
--- ---- put together
--- the magnitude of a significand over d exponent fields is the one that stands for what it counts
+-- ---- packed
+-- the magnitude of a significand over d exponent fields stands for the units that it counts
 pub exactly-packed : (f : Format) (s d u : ℕ) → s < 2 * 2 ^ f .frac → (0 < d → 2 ^ f .frac ≤ s) → s * 2 ^ d ≡ u → u < units f (inf f)
     → (s + d * 2 ^ f .frac ≡ exactly f u) × (s + d * 2 ^ f .frac < inf f)
 exactly-packed f s d u l h e k =
@@ -97,7 +97,7 @@ exactly-packed f s d u l h e k =
     let b : m < inf f = units-lt-inv f m (inf f) (omega arith) in
     (sym (ap (exactly f) (sym c) ∙ fixed-whole f even m (below-reach f even m b)), b)
 
--- a significand with z zeros before it goes up by the zeros that the format has no room for, and then its first bit is the implicit one
+-- a significand with z leading zeros is shifted left by the zeros that exceed the format's, and its leading bit is then the implicit one
 pub record Leads (p s z : ℕ) : Type 0 where
   pub least : 63 - p ≤ z
   pub filled : 2 ^ p ≤ s * 2 ^ (z - (63 - p))
@@ -126,7 +126,7 @@ module _ {p e : ℕ} (w : Fits p e) (s up : ℕ) (fits : s * 2 ^ up < units (for
   word-room = omega (arith, pow-mono {i = p} {j = 62} (omega (arith, w .word, w .fair .expo-two)))
 
   module _ (z : ℕ) (few : s < 2 ^ (p + 1)) (top : Fills 64 s z) where
-    -- so high the significand goes
+    -- the longest shift: it makes the leading bit the implicit one
     abbrev most : ℕ
     most = z - (63 - p)
 
@@ -143,6 +143,6 @@ module _ {p e : ℕ} (w : Fits p e) (s up : ℕ) (fits : s * 2 ^ up < units (for
         let (q, b) = exactly-packed (format p e) (s * 2 ^ most) (up - most) (s * 2 ^ up) (led .room) (λ z. led .filled) (omega (arith, times s (pow-diff {a = up} {b = most} (omega arith)))) fits in
         (omega (arith, led .room, word-room), q, omega (arith, b, inf-below-top (format p e), pow-mono {i = p + e} {j = 63} (w .word)))
 
--- what is packed is finite
+-- the packed magnitude is finite
 pub exactly-below : (f : Format) (s up : ℕ) → s < 2 * 2 ^ f .frac → s * 2 ^ up < units f (inf f) → exactly f (s * 2 ^ up) < inf f
 exactly-below f s up l h = units-lt-inv f (exactly f (s * 2 ^ up)) (inf f) (omega (arith, exact f even up s l h))

@@ -1,4 +1,4 @@
--- A finite number that is not zero, by its significand and its exponent: they are what the fields say, the leading bit stands in place, and together they make the number's smallest units. Assumes nothing.
+-- A finite nonzero number by its significand and its exponent: the fields give them, the leading bit is bit frac, and they make up the smallest units. Assumes nothing.
 use Prim.Native.Nat.{ℕ, zero, suc, _+_, _-_, _*_, _^_, _≤_, _<_}
 use mathlib.Core.Path.{_≡_, refl, sym, ap, _∙_}
 use native.Mathlib.Nat.{two-pow-succ}
@@ -47,18 +47,18 @@ module _ (f : Format) (x : ℕ) where
   pub fraction-some : 0 < magnitude f x → field f x ≡ 0 → 0 < fraction f x
   fraction-some l e = omega (arith, magnitude-fields f x, times (2 ^ f .frac) e)
 
--- ---- what they are of the number
--- the leading bit of x stands at the exponent `at`, counted in smallest units
+-- ---- by the number
+-- the leading bit of x has the exponent `at`, counted in smallest units
 pub record Normal (f : Format) (x at : ℕ) : Type 0 where
   pub least : 2 ^ f .frac ≤ sigOf f x
   pub most : sigOf f x < 2 * 2 ^ f .frac
   -- at is exp - 1 + frac
   pub exponent : expOf f x ≡ pos (suc at) -ℤ pos (f .frac)
   pub counts : units f (magnitude f x) * 2 ^ f .frac ≡ sigOf f x * 2 ^ at
-  -- and exp is less than there are fields
+  -- and exp is below the number of fields
   pub below-all : suc at < f .frac + 2 ^ f .expo
 
--- so the exponent is small, and -frac or more
+-- so the exponent is small, and at least -frac
 module _ (f : Format) (g : Fair f) (x at : ℕ) (n : Normal f x at) where
   bounds : (up (expOf f x) < 2 ^ f .expo) × (dn (expOf f x) < f .frac)
   bounds = omega (arith, eqZ-fact (n .exponent), subZ (pos (suc at)) (pos (f .frac)), oneZ (expOf f x), n .below-all, g .frac-pos, pow-pos (f .expo))

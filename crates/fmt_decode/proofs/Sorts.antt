@@ -1,4 +1,4 @@
--- Where there is no remainder, by magnitudes, and what follows for a remainder. Assumes nothing.
+-- Operands that have no remainder, by magnitude, and the answer of a remainder there. Assumes nothing.
 use Prim.Native.Nat.{ℕ, zero, suc, _+_, _%_, _^_, _≤_, _<_}
 use mathlib.Core.Path.{_≡_, refl, sym, ap, _∙_}
 use mathlib.Core.Bool.{true, false, true≢false}
@@ -39,7 +39,7 @@ module _ (f : Format) (some : 0 < inf f) (x y : ℕ) where
       go u zero l = absurd (omega arith)
       go u (suc v) l = refl
 
-  -- and back
+  -- the converse
   pub record Remains : Type 0 where
     pub below : magnitude f x < inf f
     pub least : 0 < magnitude f y
@@ -57,7 +57,7 @@ module _ (f : Format) (some : 0 < inf f) (x y : ℕ) where
       (λ b. record { below = l; least = h; most = b })
       (λ b. absurd (true≢false (sym (y-nan b) ∙ e)))))
 
-  -- by words: a zero less one wraps to the largest word w, so that one comparison finds zeros and NaNs
+  -- in words: a zero less one wraps to the largest word w, so that one comparison finds zeros and NaNs
   pub y-test : (i w m : ℕ) → i ≡ inf f → m ≡ magnitude f y → (w + 1) % 2 ^ 64 ≡ m → w < 2 ^ 64 → top f < 2 ^ 64 → magnitude f x < inf f → leb i w ≡ noRemainder f x y
   y-test i w m a b e l g h =
       order i w

@@ -1,4 +1,4 @@
--- Where the leading bit of a number stands: the zeros before a fraction, and how far the exponent goes. Assumes nothing.
+-- The leading zeros of a fraction, and the range of the exponent. Assumes nothing.
 use Prim.Native.Nat.{ℕ, suc, _+_, _-_, _^_, _≤_, _<_}
 use mathlib.Core.Path.{_≡_}
 use native.Mathlib.Nat.{two-pow-succ}
@@ -17,7 +17,7 @@ use Rattle.fmt_decode.specs.Significand.{expOf}
 use Rattle.fmt_decode.proofs.Significands.{normal-is}
 use Rattle.fmt_decode.specs.Norm.{normExpOf}
 
--- ---- zeros before a fraction, in a word and in the format
+-- ---- leading zeros of a fraction, in a word and in the format
 pub zeros-less : (p t : ℕ) → p ≤ 63 → 0 < t → t < 2 ^ p → leadingZeros 64 t ≡ leadingZeros (suc p) t + (63 - p)
 zeros-less p t r l h =
     let m : 2 ^ p ≤ 2 ^ 63 = pow-mono r in
@@ -26,12 +26,12 @@ zeros-less p t r l h =
     let e : i ≡ j = top-unique t i j b (omega (arith, pow-add 2 i 1, two-pow-succ i)) g (omega (arith, pow-add 2 j 1, two-pow-succ j)) in
     omega arith
 
--- ---- how far the exponent goes
+-- ---- the range of the exponent
 module _ {p e : ℕ} (w : Fits p e) (x : ℕ) (some : 0 < magnitude (format p e) x) where
   f : Format
   f = format p e
 
-  -- -(low + frac) or more, and below twice the fields
+  -- at least -(low + frac), and below the number of fields
   pub norm-exp-bounds : (up (normExpOf (format p e) x) < 2 ^ e) × (dn (normExpOf (format p e) x) ≤ low (format p e) + p)
   norm-exp-bounds =
       let (at, n) = normal-is (format p e) (w .fair) x some in
@@ -43,6 +43,6 @@ module _ {p e : ℕ} (w : Fits p e) (x : ℕ) (some : 0 < magnitude (format p e)
       let b = norm-exp-bounds in
       leZ-of (negℤ (pos (low (format p e) + p))) (normExpOf (format p e) x) (omega (arith, negZ (pos (low (format p e) + p))))
 
--- ---- what is taken off an exponent field is small
+-- ---- the number subtracted from an exponent field is small
 pub unbias-small : {p e : ℕ} → Fits p e → suc (low (format p e)) ≤ 2 ^ 16
 unbias-small {p} {e} w = omega (arith, pow-mono {i = e - 1} {j = 15} (omega (arith, w .small)), w .word, w .fair .frac-pos)

@@ -1,4 +1,4 @@
--- A finite number that is not zero as a whole significand times a power of two, and the patterns that are no such number. Assumes nothing.
+-- A finite nonzero number as a whole significand times a power of two, and the patterns that are set aside. Assumes nothing.
 use Prim.Native.Nat.{ℕ, zero, suc}
 use mathlib.Core.Bool.{Bool, true, false}
 use lib.IntN.{ℤ, pos, _-ℤ_}

@@ -1,4 +1,4 @@
--- Where there is no remainder, by the rows of every remainder. Assumes nothing.
+-- Operands that have no remainder, by the rows of every remainder. Assumes nothing.
 use Prim.Native.Nat.{ℕ}
 use mathlib.Core.Bool.{Bool, true, false}
 use Rattle.ieee.specs.Format.{Format}

@@ -1,4 +1,4 @@
-// Operands taken apart: magnitudes, significands with signed exponents, and the operands of a remainder.
+// Operands unpacked and packed: magnitudes, significands with signed exponents, operands of a remainder.
 pub mod norm;
 pub mod pack;
 pub mod remainder;

@@ -1,4 +1,4 @@
-// The operands of fma taken apart: a number that is not zero as a significand, a signed exponent and a sign; and those that are none.
+// The operands of fma unpacked: a nonzero number as a significand, a signed exponent and a sign; and the patterns that are set aside.
 ghost use mathlib.Core.Path.{_≡_};
 ghost use Prim.Native.Nat.{suc, _+_, _-_, _<_, _^_};
 ghost use lib.Count.{leadingZeros};
@@ -17,14 +17,14 @@ use fmt_fields::pattern::infinity;
 use fmt_fields::pattern::magnitude_of;
 use word_bits::pow;
 
-// sig times 2^exp, and below zero where neg is set. The leading bit of sig stands at bit frac.
+// sig times 2^exp, negative where neg is set. The leading bit of sig is bit frac.
 pub struct Norm {
     pub sig: u64,
     pub exp: i32,
     pub neg: bool,
 }
 
-// Whether x is a zero, an infinity or a NaN. A zero less one wraps to the far side of infinity.
+// Whether x is a zero, an infinity or a NaN. A zero less one wraps to a word past infinity.
 pub fn is_zero_nan_inf(frac: u32, expo: u32, x: u64) -> bool
     requires { ⌜ Fits frac expo ⌝ }
     ensures { λ r. ⌜ r ≡ aside (format frac expo) x ⌝ }
@@ -34,7 +34,7 @@ pub fn is_zero_nan_inf(frac: u32, expo: u32, x: u64) -> bool
     std::num::wrapping_sub_u64(size, 1) >= inf - 1
 }
 
-// How far a fraction goes up until its leading bit stands at bit frac: the zeros before it, less those that a word has above that bit.
+// How far to shift a fraction left until its leading bit is bit frac: its leading zeros in the word, less those above that bit.
 pub fn zeros_before(frac: u32, t: u64) -> u32
     requires { ⌜ (frac < 62) × (0 < t) × (t < 2 ^ frac) ⌝ }
     ensures { λ r. ⌜ r ≡ leadingZeros (suc frac) t ⌝ }
@@ -42,7 +42,7 @@ pub fn zeros_before(frac: u32, t: u64) -> u32
     u64::leading_zeros(t) - (63 - frac)
 }
 
-// What the exponent of the units, the exponent field, is above the exponent of the number itself: at 64 bits 1075, at 32 bits 150.
+// The difference between the exponent field and the exponent of the significand: 1075 at 64 bits, 150 at 32 bits.
 pub fn unbias(frac: u32, expo: u32) -> i32
     requires { ⌜ Fits frac expo ⌝ }
     ensures { λ r. ⌜ r ≡ pos (suc (low (format frac expo))) ⌝ }
@@ -50,8 +50,8 @@ pub fn unbias(frac: u32, expo: u32) -> i32
     (pow(expo - 1) + frac as u64 - 1) as i32
 }
 
-// A normal number has its leading bit above the fraction; a subnormal one goes up by the zeros before its own. The exponent is -(low + frac) at the
-// least: at 64 bits -1126, at 32 bits -172.
+// A normal number has its leading bit above the fraction; a subnormal fraction is shifted left by its leading zeros. The exponent is at least
+// -(low + frac): -1126 at 64 bits, -172 at 32 bits.
 pub fn norm_of(frac: u32, expo: u32, x: u64) -> Norm
     requires { ⌜ Fits frac expo × (0 < magnitude (format frac expo) x) × (magnitude (format frac expo) x < inf (format frac expo)) ⌝ }
     ensures { λ r. ⌜ (r .sig ≡ sigOf (format frac expo) x) × (r .exp ≡ normExpOf (format frac expo) x) × (r .neg ≡ minus (format frac expo) x) × T (leZ (negℤ (pos (low (format frac expo) + frac))) (r .exp)) ⌝ }

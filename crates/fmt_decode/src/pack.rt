@@ -6,13 +6,13 @@ ghost use Rattle.ieee.specs.Round.{exactly};
 ghost use Rattle.fmt_fields.specs.Width.{format, Fits};
 use word_bits::pow;
 
-// The significand, with its implicit bit, and how far the exponent field is past 1: by nothing for subnormal numbers, which have no such bit.
+// The significand, with its implicit bit, and the exponent field less 1: 0 for subnormal numbers, which have no implicit bit.
 pub struct SigExp {
     pub sig: u64,
     pub exp: u32,
 }
 
-// A magnitude taken apart. What the exponent field counts, but for one, is no part of the significand, and that one is the implicit bit.
+// Unpacks a magnitude. One unit of the exponent field stays in the significand as the implicit bit; the rest is taken out.
 pub fn into_sig_exp(frac: u32, expo: u32, m: u64) -> SigExp
     requires { ⌜ Fits frac expo × (m < 2 ^ (frac + expo)) ⌝ }
     ensures { λ r. ⌜ (r .exp ≡ m / 2 ^ frac - 1) × (r .sig ≡ m - (m / 2 ^ frac - 1) * 2 ^ frac) ⌝ }
@@ -28,8 +28,8 @@ pub fn into_sig_exp(frac: u32, expo: u32, m: u64) -> SigExp
     }
 }
 
-// The magnitude of sig times 2^up smallest units. The significand goes up until its first bit is the implicit one, and what is then left of up goes to the
-// exponent field.
+// The magnitude of sig times 2^up smallest units. The significand is shifted left until its leading bit is the implicit one, and what remains of up is added
+// to the exponent field.
 pub fn pack(frac: u32, expo: u32, sig: u64, up: u32) -> u64
     requires { ⌜ Fits frac expo × (sig < 2 ^ (frac + 1)) × (up < 2 ^ expo) × (sig * 2 ^ up < units (format frac expo) (inf (format frac expo))) ⌝ }
     ensures { λ r. ⌜ r ≡ exactly (format frac expo) (sig * 2 ^ up) ⌝ }

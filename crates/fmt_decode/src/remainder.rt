@@ -1,11 +1,11 @@
-// Operands of a remainder, told apart.
+// Operands that have no remainder.
 ghost use mathlib.Core.Path.{_≡_};
 ghost use Rattle.fmt_fields.specs.Width.{format, Fits};
 ghost use Rattle.fmt_decode.specs.Rows.{noRemainder};
 use fmt_fields::pattern::infinity;
 use fmt_fields::pattern::magnitude_of;
 
-// Whether there is no remainder: x infinite or a NaN, y zero or a NaN. A zero less one wraps, to the far side of infinity, where the NaNs are.
+// Whether there is no remainder: x infinite or a NaN, y zero or a NaN. A zero less one wraps to a word past infinity, where the NaNs are.
 pub fn has_no_remainder(frac: u32, expo: u32, x: u64, y: u64) -> bool
     requires { ⌜ Fits frac expo ⌝ }
     ensures { λ r. ⌜ r ≡ noRemainder (format frac expo) x y ⌝ }

@@ -1,4 +1,4 @@
-// A finite number that is not zero as a significand with its leading bit in place and a signed exponent: taken apart, compared and put back.
+// A finite nonzero number as a significand, its leading bit at bit frac, and a signed exponent: unpacked, compared and packed.
 ghost use mathlib.Core.Path.{_≡_};
 ghost use Prim.Native.Nat.{suc, _+_, _*_, _<_, _^_};
 ghost use lib.Count.{leadingZeros};
@@ -22,7 +22,7 @@ pub struct Significand {
     pub exp: i32,
 }
 
-// A subnormal number's fraction brought into place one bit at a time: each step takes one from the exponent, which starts at 1.
+// Shifts a subnormal fraction left, one bit at a time, until its leading bit is bit frac. Each step subtracts one from the exponent, which starts at 1.
 fn bring_up(frac: u32, t: u64) -> Significand
     requires { ⌜ (frac < 62) × (0 < t) × (t < 2 ^ frac) ⌝ }
     ensures { λ r. ⌜ (r .sig ≡ t * 2 ^ leadingZeros (suc frac) t) × (r .exp ≡ pos 1 -ℤ pos (leadingZeros (suc frac) t)) ⌝ }
@@ -37,7 +37,7 @@ fn bring_up(frac: u32, t: u64) -> Significand
     Significand { sig, exp }
 }
 
-// A normal number has its leading bit in place above the fraction, and its exponent is the field; a subnormal one is brought there.
+// A normal number has its leading bit above the fraction, and its exponent is the field; a subnormal fraction is shifted up.
 pub fn significand_of(frac: u32, expo: u32, x: u64) -> Significand
     requires { ⌜ Fits frac expo × (0 < magnitude (format frac expo) x) × (magnitude (format frac expo) x < inf (format frac expo)) ⌝ }
     ensures { λ r. ⌜ (r .sig ≡ sigOf (format frac expo) x) × (r .exp ≡ expOf (format frac expo) x) ⌝ }
@@ -53,7 +53,7 @@ pub fn significand_of(frac: u32, expo: u32, x: u64) -> Significand
     }
 }
 
-// How far the exponent ex is past ey - 2, and 0 where it is not.
+// How far the exponent ex exceeds ey - 2, or 0 where it does not.
 pub fn exponent_lead(ex: i32, ey: i32) -> u32
     requires { ⌜ (mag ex < 2 ^ 20) × (mag ey < 2 ^ 20) ⌝ }
     ensures { λ r. ⌜ r ≡ above (ex -ℤ ey +ℤ pos 2) ⌝ }
@@ -65,7 +65,7 @@ pub fn exponent_lead(ex: i32, ey: i32) -> u32
     far as u32
 }
 
-// The magnitude of a significand and an exponent. Below 1 the exponent takes bits from the significand, which is then the magnitude itself.
+// The magnitude of a significand and an exponent. An exponent below 1 shifts bits out of the significand, which is then the magnitude itself.
 pub fn pack_significand(frac: u32, expo: u32, sig: u64, exp: i32) -> u64
     requires { ⌜ Fits frac expo × (sig < 2 ^ (frac + 1)) × (mag exp < 2 ^ expo) × T (leZ (negsuc frac) exp) × (unitsAt sig exp < units (format frac expo) (inf (format frac expo))) ⌝ }
     ensures { λ r. ⌜ r ≡ exactly (format frac expo) (unitsAt sig exp) ⌝ }

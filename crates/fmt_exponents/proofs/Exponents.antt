@@ -1,4 +1,4 @@
--- Signed exponents by their tests: brought into reach, and as the field of a normal number. Assumes nothing.
+-- Signed exponents by their tests: clamped, and as the field of a normal number. Assumes nothing.
 use Prim.Native.Nat.{ℕ, _≤_, _<_, min}
 use mathlib.Core.Path.{_≡_, refl, ap}
 use mathlib.Core.Bool.{true, false}
@@ -9,7 +9,7 @@ use Rattle.algebra.proofs.Integers.{absZ, subZ, eqZ, ltZ-true, ltZ-false}
 use Rattle.ieee.specs.Scalbn.{clamp}
 use Rattle.fmt_exponents.specs.Field.{above, depthOf}
 
--- ---- brought into reach
+-- ---- clamped
 pub clamp-mag : (b : ℕ) (n : ℤ) → mag (clamp b n) ≤ b
 clamp-mag b (pos n) = omega arith
 clamp-mag b (negsuc n) = omega arith
@@ -29,7 +29,7 @@ pub clamp-within : (b : ℕ) (n : ℤ) → ltZ (pos b) n ≡ false → ltZ n (ne
 clamp-within b (pos n) t u = let l = ltZ-false (pos b) (pos n) t in ap pos (omega arith)
 clamp-within b (negsuc n) t u = let l = ltZ-false (negsuc n) (negsuc 0 -ℤ pos b) u in ap negsuc (omega (arith, subZ (negsuc 0) (pos b)))
 
--- ---- above nothing, and how deep below the least normal number
+-- ---- the positive part, and the depth below the least normal number
 pub above-negative : (n : ℤ) → ltZ n (pos 0) ≡ true → 0 ≡ above n
 above-negative (pos n) t = let l = ltZ-true (pos n) (pos 0) t in absurd (omega arith)
 above-negative (negsuc n) t = refl
@@ -58,7 +58,7 @@ pub depth-most : (n : ℤ) → depthOf n ≤ 64
 depth-most (pos n) = omega arith
 depth-most (negsuc n) = omega arith
 
--- a field that is one is the exponent itself
+-- a positive field is the exponent itself
 pub above-is : (n : ℤ) → 0 < above n → n ≡ pos (above n)
 above-is (pos n) l = refl
 above-is (negsuc n) l = absurd (omega arith)

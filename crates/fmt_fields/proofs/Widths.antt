@@ -22,7 +22,7 @@ module _ {p e : ℕ} (w : Fits p e) where
   pub fields-small : 2 ^ e ≤ 2 ^ 16
   fields-small = pow-mono (w .small)
 
-  -- a word has 63 - p bits more than the format keeps of it
+  -- a word has 63 - p bits more than the format keeps
   pub extra-bits : 2 ^ (63 - p) * 2 ^ p ≡ 2 ^ 63
   extra-bits = let e : 63 - p + p ≡ 63 = omega (arith, w .word) in sym (pow-add 2 (63 - p) p) ∙ ap (λ n. 2 ^ n) e
 
@@ -32,14 +32,14 @@ module _ {p e : ℕ} (w : Fits p e) where
   pub fills-most : (s : ℕ) → s < 2 ^ 64 → s < 2 ^ (63 - p + suc p)
   fills-most s l = omega (arith, pow-add 2 (63 - p) (suc p), times (2 ^ (63 - p)) (two-pow-succ p), extra-bits)
 
-  -- so p + 1 are left where as many go, or more
+  -- so a shift by as many or more leaves p + 1
   pub kept-small : (s k : ℕ) → s < 2 ^ 64 → 63 - p ≤ k → s / 2 ^ k < 2 * 2 ^ p
   kept-small s k l h =
       let (d, r) = div-mod s (2 ^ k) (pow-pos k) in
       let m = pow-mono {i = 63 - p} {j = k} h in
       mul-lt-cancel (s / 2 ^ k) (2 * 2 ^ p) (2 ^ k) (omega (arith, extra-bits, times-le (2 ^ p) m))
 
-  -- and with an exponent field below the last two the sum stays below the word's top bit
+  -- with an exponent field below the last two, the sum stays below the word's top bit
   pub field-room : (c q : ℕ) → c + 3 ≤ 2 ^ e → q < 2 * 2 ^ p → c * 2 ^ p + q < 2 ^ 63
   field-room c q l h =
       let m = pow-mono {i = e + p} {j = 63} (omega (arith, w .word)) in

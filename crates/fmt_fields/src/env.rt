@@ -1,4 +1,4 @@
-// An answer with its status, by value, and the statuses: bits of the crate's flags.
+// An answer with its status, by value, and the statuses: bits of libm's flags.
 
 pub const OK: u32 = 0;
 

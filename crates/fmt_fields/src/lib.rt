@@ -1,4 +1,4 @@
-// A pattern taken apart: its exponent field, its fraction, its sign; and put together from a sign and a magnitude.
+// The fields of a pattern: exponent, fraction and sign; and a pattern made of a sign and a magnitude.
 ghost use mathlib.Core.Path.{_≡_};
 ghost use Prim.Native.Nat.{_+_, _<_, _^_};
 ghost use Rattle.ieee.specs.Pattern.{minus, field, fraction, signed};
@@ -29,7 +29,7 @@ pub fn is_negative(frac: u32, expo: u32, x: u64) -> bool
     x >= pow(frac + expo)
 }
 
-// A magnitude with its sign, as a pattern.
+// The pattern of a sign and a magnitude.
 pub fn with_sign(frac: u32, expo: u32, neg: bool, m: u64) -> u64
     requires { ⌜ Fits frac expo × (m < 2 ^ (frac + expo)) ⌝ }
     ensures { λ r. ⌜ r ≡ signed (format frac expo) neg m ⌝ }

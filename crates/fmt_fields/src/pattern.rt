@@ -1,4 +1,4 @@
-// Patterns that every format has, infinity's and the canonical NaN; and a pattern without its sign.
+// Infinity, the canonical NaN, and the magnitude of a pattern.
 ghost use mathlib.Core.Path.{_≡_};
 ghost use Rattle.ieee.specs.Format.{inf, canonical};
 ghost use Rattle.ieee.specs.Pattern.{magnitude};

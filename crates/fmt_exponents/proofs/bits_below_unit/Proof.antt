@@ -1,4 +1,4 @@
--- The three ways out are the cases of a depth (Exponents), and the difference is above zero and small (algebra: Integers). Assumes nothing.
+-- The three branches are the cases of a depth (Exponents), and the difference is positive and small (algebra: Integers). Assumes nothing.
 use mathlib.Core.Path.{_≡_}
 use mathlib.Core.Bool.{true, false}
 use native.Mathlib.Omega.{arith}

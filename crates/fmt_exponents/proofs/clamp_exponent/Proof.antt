@@ -1,4 +1,4 @@
--- Above, beneath and in reach are the three cases of the clamp (Exponents), whose lower end does not wrap (algebra: Integers). Assumes nothing.
+-- Above, below and within reach are the three cases of the clamp (Exponents), whose lower end does not wrap (algebra: Integers). Assumes nothing.
 use mathlib.Core.Path.{_≡_}
 use mathlib.Core.Bool.{true, false}
 use native.Mathlib.Omega.{arith}

@@ -1,4 +1,4 @@
--- Below zero the field is 0, and else the number itself (Exponents), which the cast keeps (algebra: Integers). Assumes nothing.
+-- A negative number gives 0, any other the number itself (Exponents), which the cast keeps (algebra: Integers). Assumes nothing.
 use mathlib.Core.Path.{_≡_}
 use mathlib.Core.Bool.{true, false}
 use native.Mathlib.Omega.{arith}

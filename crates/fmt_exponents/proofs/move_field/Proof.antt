@@ -1,4 +1,4 @@
--- The sum of a field and an n of 32 bits cannot wrap at 64, so that it is the integers' own (algebra: Integers). Assumes nothing.
+-- The sum of a field and a 32-bit n cannot wrap at 64 bits, so it is the integers' own (algebra: Integers). Assumes nothing.
 use mathlib.Core.Path.{_≡_}
 use native.Mathlib.Omega.{arith}
 use borrow.Author.Needs.{needs}

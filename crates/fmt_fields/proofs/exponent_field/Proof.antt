@@ -1,4 +1,4 @@
--- The quotient and the remainder are the definition's, and neither divisor is 0, since both are powers of two. Assumes nothing.
+-- The quotient and the remainder are the definition's, and both divisors are powers of two, so neither is 0. Assumes nothing.
 use Prim.Native.Nat.{_/_, _%_}
 use mathlib.Core.Path.{ap₂}
 use native.Mathlib.Omega.{arith}

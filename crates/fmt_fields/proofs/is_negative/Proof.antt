@@ -1,4 +1,4 @@
--- The comparison is the definition's own, with a sign bit that a word has room for. Assumes nothing.
+-- The comparison is the definition's, and the sign bit fits in a word. Assumes nothing.
 use mathlib.Core.Path.{ap}
 use lib.Dec.{leb}
 use borrow.Author.Needs.{needs}

@@ -1,4 +1,4 @@
--- A magnitude is below the sign bit, which is 2^63 at most, so that their sum does not wrap. Assumes nothing.
+-- A magnitude is below the sign bit, which is at most 2^63, so their sum does not wrap. Assumes nothing.
 use Prim.Native.Nat.{_+_}
 use native.Mathlib.Omega.{arith}
 use lib.Pow.{pow-mono}

@@ -1,4 +1,4 @@
--- The field tells the two cases of the definition apart (significands: Significands), and no step wraps (Zeros, algebra: Integers). Assumes nothing.
+-- The field tells the two cases of the definition apart (Significands), and no step wraps (Zeros, algebra: Integers). Assumes nothing.
 use Prim.Native.Nat.{ℕ, suc, _+_, _*_, _^_, _<_}
 use mathlib.Core.Path.{_≡_, sym, ap, ap₂, _∙_, subst}
 use native.Mathlib.Nat.{mod-eq-of-lt, two-pow-succ}
@@ -28,7 +28,7 @@ use Rattle.fmt_decode.proofs.norm.norm_of.Tie as tie
 abbrev fmt : tie.Start → Format
 fmt s = format (s .args .frac) (s .args .expo)
 
--- the exponent, whatever it was computed by, goes no further down
+-- the exponent, however computed, is no less
 least-of : (s : tie.Start) {z : ℤ} → z ≡ normExpOf (fmt s) (s .args .x) → T (leZ (negℤ (pos (low (fmt s) + s .args .frac))) z)
 least-of s e = subst (λ z. T (leZ (negℤ (pos (low (fmt s) + s .args .frac))) z)) (sym e) (norm-exp-least (s .pre .0) (s .args .x) (s .pre .1))
 

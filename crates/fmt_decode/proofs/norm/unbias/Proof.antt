@@ -1,4 +1,4 @@
--- The bias and the fraction's bits are small beside a word (fields: Widths). Assumes nothing.
+-- The bias and the fraction's bits are small beside a word (fmt_fields: Widths). Assumes nothing.
 use Prim.Native.Nat.{_+_, _-_, _^_, _<_, _≤_}
 use mathlib.Core.Path.{ap, _∙_}
 use native.Mathlib.Omega.{arith}

@@ -1,4 +1,4 @@
--- A word has 63 - frac zeros more before a fraction than the format has (Zeros). Assumes nothing.
+-- A fraction has 63 - frac more leading zeros in a word than in the format (Zeros). Assumes nothing.
 use native.Mathlib.Omega.{arith}
 use borrow.Author.Needs.{needs}
 use Rattle.fmt_decode.proofs.Zeros.{zeros-less}

@@ -1,4 +1,4 @@
--- Below one exponent field a magnitude is its own significand; from there on what the field counts, but for one, is part of it (Packs). Assumes nothing.
+-- A magnitude below one exponent field is its own significand; from there on the significand keeps one unit of the field (Packs). Assumes nothing.
 use Prim.Native.Nat.{ℕ, _-_, _*_, _/_, _^_, _≤_}
 use mathlib.Core.Path.{_≡_}
 use native.Mathlib.Omega.{arith}

@@ -32,7 +32,7 @@ returns-2 c =
     let (l, e) = low-packed (s .pre .0) (s .args .sig) (s .args .up) (s .pre .3) (z (c .before)) (s .pre .1) (top (c .before)) (omega (arith, c .if2 .taken)) in
     omega (arith, mod-eq-of-lt l)
 
--- the word that goes up until its first bit is the implicit one, and the rest of up over it
+-- the significand shifted left until its leading bit is the implicit one, and the rest of up above it
 module _ (c : tie.After-pow) where
   abbrev o : tie.Else1
   o = c .before .before

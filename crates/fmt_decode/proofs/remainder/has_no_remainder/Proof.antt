@@ -1,4 +1,4 @@
--- Each comparison finds the magnitudes without a remainder, those of x and those of y (Sorts). Assumes nothing.
+-- The comparisons find the magnitudes without a remainder: one those of x, one those of y (Sorts). Assumes nothing.
 use mathlib.Core.Path.{sym}
 use native.Mathlib.Omega.{arith}
 use borrow.Author.Needs.{needs}

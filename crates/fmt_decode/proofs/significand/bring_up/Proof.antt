@@ -1,4 +1,4 @@
--- The invariant: so many steps were made, and the number has not passed its place; where the loop ends it was moved by its leading zeros (Zeros). Assumes nothing.
+-- The invariant counts the steps and keeps the leading bit at bit frac or below; when the loop ends, the shift is by the leading zeros (MovedUp). Assumes nothing.
 use Prim.Native.Nat.{ℕ, suc, _-_, _*_, _^_, _≤_, _<_}
 use mathlib.Core.Path.{_≡_, refl, ap, _∙_}
 use native.Mathlib.Nat.{two-pow-succ}

@@ -1,4 +1,4 @@
--- Neither step wraps, and what is below zero counts as nothing (exponents: Exponents; algebra: Integers). Assumes nothing.
+-- Neither step wraps, and a negative difference gives 0 (fmt_exponents: Exponents; algebra: Integers). Assumes nothing.
 use Prim.Native.Nat.{_+_, _^_, _≤_, _<_}
 use mathlib.Core.Path.{_≡_}
 use mathlib.Core.Bool.{true, false}

@@ -1,4 +1,4 @@
--- Above zero the exponent is the one that packing asks for, and else bits go (InUnits); no step wraps (algebra: Integers). Assumes nothing.
+-- A positive exponent is the one that `pack` takes; any other shifts bits out (InUnits); no step wraps (algebra: Integers). Assumes nothing.
 use Prim.Native.Nat.{_^_, _≤_, _<_}
 use mathlib.Core.Path.{_≡_, ap, _∙_}
 use mathlib.Core.Bool.{true, false}

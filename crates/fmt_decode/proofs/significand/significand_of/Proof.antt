@@ -1,4 +1,4 @@
--- The field tells the two cases of the definition apart (Significands); a field fits a signed word and a significand a word (fields: Decoded). Assumes nothing.
+-- The field tells the two cases of the definition apart (Significands); a field fits a signed word and a significand a word (fmt_fields: Decoded). Assumes nothing.
 use Prim.Native.Nat.{suc, _+_, _*_, _^_, _<_}
 use mathlib.Core.Path.{sym, ap, ap₂, _∙_}
 use native.Mathlib.Omega.{arith}

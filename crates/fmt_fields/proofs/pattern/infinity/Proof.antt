@@ -1,4 +1,4 @@
--- Infinity's pattern and one more exponent field are the sign bit (ieee: Patterns). Assumes nothing.
+-- The pattern of infinity plus one unit of the exponent field is the sign bit (ieee: Patterns). Assumes nothing.
 use native.Mathlib.Omega.{arith}
 use borrow.Author.Needs.{needs}
 use Rattle.ieee.specs.Format.{Format}
