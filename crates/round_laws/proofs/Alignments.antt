@@ -1,4 +1,4 @@
--- Where the cut of a significand that fills its word stands, by its exponent: four cases. Assumes nothing.
+-- How a normalised significand is aligned to the format, by its exponent: four cases. Assumes nothing.
 use Prim.Native.Nat.{ℕ, suc, _+_, _-_, _*_, _/_, _%_, _^_, _≤_, _<_}
 use mathlib.Core.Path.{_≡_, refl, sym, ap, _∙_}
 use native.Mathlib.Omega.{arith}
@@ -19,7 +19,7 @@ use Rattle.round_laws.proofs.Locations.{Lies, locate-normal, locate-sub
 use Rattle.round_laws.proofs.Stretched.{stretched-same, same-lies}
 use Rattle.fmt_fields.proofs.Widths.{four-fields, fills-least, fills-most, extra-bits, kept-small}
 
--- ---- what normalising leaves: u times 2 ^ n is s times 2 ^ (at - 2 ^ 21), and s fills its word
+-- ---- normalised: u times 2 ^ n is s times 2 ^ (at - 2 ^ 21), and s fills its word
 pub record Filled (u : ℕ) (n : ℤ) (s at : ℕ) : Type 0 where
   pub zeros : ℕ
   pub moved : u * 2 ^ zeros ≡ s
@@ -38,7 +38,7 @@ filled u n s at p l m e q =
     let h : at + dn n + z ≡ up n + 2 ^ 21 = omega (arith, a, b, subZ n (pos z), addZ (n -ℤ pos z) (pos (2 ^ 21))) in
     record { zeros = z; moved = sym e; least = omega (arith, f .least); most = omega (arith, f .most); level = h; small = omega arith }
 
--- both lie alike
+-- both have the same neighbour and location
 pub filled-lies : (f : Format) {u s at : ℕ} {n : ℤ} → Filled u n s at → Lies f (stretched u n) (below f (filledAt s at)) (location f (filledAt s at))
 filled-lies f {u} {s} {at} {n} i =
     same-lies f (stretched u n) (filledAt s at) (stretched-same u (i .zeros) s n (i .moved) (at - 2 ^ 21) (2 ^ 21 - at) (omega (arith, i .level))) (refl, refl)
@@ -63,7 +63,7 @@ module _ {p e : ℕ} (w : Fits p e) (s at : ℕ) (l : 2 ^ 63 ≤ s) (m : s < 2 ^
         kept = kept-small w s k m (omega arith);
       }
 
-  -- all of it is less than half of a unit, as one bit is
+  -- all of it is less than half a unit, as one bit is
   pub stands-nothing : at + 64 < 2 ^ 21 → Stands p e s at 1 0 64
   stands-nothing h =
       let k = 2 ^ 21 - at in
@@ -91,7 +91,7 @@ module _ {p e : ℕ} (w : Fits p e) (s at : ℕ) (l : 2 ^ 63 ≤ s) (m : s < 2 ^
         kept = kept-small w s (63 - p) m (omega arith);
       }
 
-  -- past the largest finite number, as a significand of ones under the last exponent
+  -- past the largest finite number: as a significand of ones under the last exponent
   pub stands-over : (c : ℕ) → at + (63 - p) ≡ c + 2 ^ 21 → 2 ^ e < c + 3 → Stands p e s at (2 ^ 64 - 1) (2 ^ e - 3) (63 - p)
   stands-over c h q =
       let X = 63 - p in

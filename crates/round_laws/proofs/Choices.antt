@@ -1,4 +1,4 @@
--- The choice: the magnitude below and the location above it decide the rounding, whatever the way. Assumes nothing.
+-- The lower neighbour and the location decide the rounding, for every way. Assumes nothing.
 use Prim.Native.Nat.{ℕ, zero, suc, _+_, _*_, _%_, _≤_, _<_}
 use mathlib.Core.Path.{_≡_, refl, sym, ap, _∙_}
 use mathlib.Core.Bool.{Bool, true, false, not, cond}
@@ -16,7 +16,7 @@ use Rattle.ieee.proofs.Local.{From, local}
 use Rattle.round_laws.specs.Location.{below, locationAbove, location, chosen}
 use Rattle.round_laws.proofs.Parts.{location-most}
 
--- a magnitude that x lies at, and before the next, is the one below x
+-- a magnitude that is at most x, while the next is above x, is the lower neighbour
 pub below-is : (f : Format) (x : Exact) → Sound x → (m : ℕ) → From f x m → below f x ≡ m
 unfolding below
 below-is f x s m b = rounded-is f shorter x s m (own m (b .finite) (b .low)) (λ p. b .high (strict (p .0) (p .1 .1)) (p .1 .0))
@@ -28,7 +28,7 @@ below-is f x s m b = rounded-is f shorter x s m (own m (b .finite) (b .low)) (λ
     strict : suc m ≤ inf f → (suc m ≡ inf f → ⊥) → suc m < inf f
     strict l n = omega arith
 
--- and the one below x is such
+-- the converse
 pub below-from : (f : Format) → Fair f → (x : Exact) → From f x (below f x)
 unfolding below
 below-from f g x =
@@ -71,7 +71,7 @@ flip : (m : ℕ) (t : Bool) → m + cond (not t) 1 0 ≡ m + cond t 0 1
 flip m true = refl
 flip m false = refl
 
--- the location says how that test comes out
+-- the location decides that test
 module _ (f : Format) (x : Exact) (s : Sound x) (m : ℕ) (b : From f x m) where
   -- m is below the middle
   not-both : Under x (2 * units f m) → Over x (middle f m) → ⊥

@@ -1,4 +1,4 @@
--- What is shed in a cut: the last bit of a quotient and whether anything is left make the location. Assumes nothing.
+-- The location of shifted-out bits: the last bit of a quotient and whether its remainder is 0. Assumes nothing.
 use Prim.Native.Nat.{ℕ, zero, suc, _+_, _*_, _/_, _%_, _^_, _≤_, _<_}
 use mathlib.Core.Path.{_≡_, sym, ap, _∙_}
 use mathlib.Core.Bool.{Bool, true, false, cond}
@@ -12,7 +12,7 @@ use Rattle.ieee.proofs.Decide.{Reads, so, not-so, eqb-reads}
 use Rattle.round_laws.specs.Location.{part}
 use Rattle.round_laws.proofs.Parts.{part-at, part-before, part-middle, part-beyond}
 
--- the location of a remainder that is a bit b, and r below it
+-- the location of a remainder that consists of a bit b and r below it
 bit-part : (b r h : ℕ) → b ≤ 1 → r < h → part (b * h + r) (2 * h) ≡ 2 * b + cond (eqb r 0) 0 1
 bit-part b r h l k = go b l (eqb-reads r 0)
   where
@@ -34,7 +34,7 @@ halves s h p =
 part-of-halves : (s h : ℕ) → 0 < h → part (s % (2 * h)) (2 * h) ≡ 2 * (s / h % 2) + cond (eqb (s % h) 0) 0 1
 part-of-halves s h p = ap (λ r. part r (2 * h)) (halves s h p .1) ∙ bit-part (s / h % 2) (s % h) h (omega arith) (div-mod s h p .1)
 
--- the same of code that has d = 2 ^ j, half of what the last bit kept counts
+-- the same for code that has d = 2 ^ j, half of the last kept bit
 module _ (s j k d : ℕ) (e : d ≡ 2 ^ j) (i : k ≡ suc j) where
   doubled : 2 * 2 ^ j ≡ 2 ^ k
   doubled = omega (arith, two-pow-succ j) ∙ ap (λ n. 2 ^ n) (sym i)

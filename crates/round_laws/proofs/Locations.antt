@@ -1,4 +1,4 @@
--- The cut: where a significand over a power of two lies, by its quotient and its remainder. Assumes nothing.
+-- The lower neighbour and the location of a significand over a power of two, by its quotient and its remainder. Assumes nothing.
 use Prim.Native.Nat.{ℕ, suc, _+_, _-_, _*_, _/_, _%_, _^_, _≤_, _<_}
 use mathlib.Core.Path.{_≡_, sym, ap, _∙_}
 use mathlib.Core.Bool.{true, false}
@@ -21,11 +21,11 @@ use Rattle.round_laws.specs.Location.{below, locationAbove, location, pa
 use Rattle.round_laws.proofs.Parts.{tells}
 use Rattle.round_laws.proofs.Choices.{below-is, location-above-is}
 
--- x lies at the location p above the magnitude m
+-- x has the lower neighbour m and the location p
 abbrev pub Lies : Format → Exact → ℕ → ℕ → Type 0
 Lies f x m p = (below f x ≡ m) × (location f x ≡ p)
 
--- n / d is m and r parts more, of which D make the gap above m; a part is t / d
+-- n / d is m plus r parts, of which D make up the gap above m; a part is t / d
 module _ (f : Format) (n d m r D t : ℕ) (pd : 0 < d) (pt : 0 < t) (b : m < inf f) (e : n ≡ units f m * d + r * t) (h : gap-at f m * d ≡ D * t) (l : r < D) where
   next : units f (suc m) * d ≡ units f m * d + D * t
   next = omega (arith, times d (units-suc f m))
@@ -56,7 +56,7 @@ module _ (f : Format) (n d m r D t : ℕ) (pd : 0 < d) (pt : 0 < t) (b : m < inf
 
 -- ---- the units of a significand q, and the gap above it
 module _ (f : Format) where
-  -- normal: q has frac + 1 digits, and stands c locations up
+  -- normal: q has frac + 1 bits, and is shifted up by c
   units-normal : (c q : ℕ) → 2 ^ f .frac ≤ q → q < 2 * 2 ^ f .frac → (units f (c * 2 ^ f .frac + q) ≡ q * 2 ^ c) × (gap-at f (c * 2 ^ f .frac + q) ≡ 2 ^ c)
   units-normal c q l h =
       let r : ℕ = q - 2 ^ f .frac in
@@ -65,7 +65,7 @@ module _ (f : Format) where
       let whole : 2 ^ f .frac + r ≡ q = omega arith in
       (ap (units f) e ∙ units-at f (suc c) r k ∙ ap (λ t. t * 2 ^ c) whole, ap (gap-at f) e ∙ ap gap (digits-div (suc c) {m = 2 ^ f .frac} {r = r} k))
 
-  -- fewer digits, or as many, and 0 locations up
+  -- as many bits or fewer, not shifted
   units-low : (q : ℕ) → q < 2 * 2 ^ f .frac → (units f q ≡ q) × (gap-at f q ≡ 1)
   units-low q h =
       order (2 ^ f .frac) q
@@ -90,7 +90,7 @@ locate-by f X s a b c m e l u k = lies-by f (s * 2 ^ a) (2 ^ b) m (s % 2 ^ X) (2
     step : gap-at f m * 2 ^ b ≡ 2 ^ X * 2 ^ a
     step = omega (arith, times (2 ^ b) k, level)
 
--- ---- the values s * 2 ^ a / 2 ^ b, where s has X digits more than the format keeps
+-- ---- the values s * 2 ^ a / 2 ^ b, where s has X bits more than the format keeps
 module _ (f : Format) (g : Fair f) where
   quotient-low : (X s : ℕ) → 2 ^ (X + f .frac) ≤ s → 2 ^ f .frac ≤ s / 2 ^ X
   quotient-low X s l =
@@ -117,7 +117,7 @@ module _ (f : Format) (g : Fair f) where
       let (u, v) = units-normal f c (s / 2 ^ X) (quotient-low X s l) (quotient-high X s h) in
       locate-by f X s a b c (c * 2 ^ f .frac + s / 2 ^ X) e (normal-finite c (s / 2 ^ X) (quotient-high X s h) k) u v
 
-  -- here s need not have so many digits
+  -- here s may have fewer bits
   pub locate-subnormal : (s a b k : ℕ) → s < 2 ^ (k + suc (f .frac)) → a + k ≡ b → Lies f (ratio (s * 2 ^ a) (2 ^ b)) (s / 2 ^ k) (part (s % 2 ^ k) (2 ^ k))
   locate-subnormal s a b k h e =
       let (u, v) = units-low f (s / 2 ^ k) (quotient-high k s h) in
@@ -128,7 +128,7 @@ module _ (f : Format) (g : Fair f) where
       let (u, k) = units-low f 0 (omega (arith, pow-pos (f .frac))) in
       lies-by f (0 * 2 ^ a) (2 ^ b) 0 0 (2 ^ b) 1 (pow-pos b) (omega arith) (inf-pos f g) (omega (arith, times (2 ^ b) u)) (omega (arith, times (2 ^ b) k)) (pow-pos b)
 
-  -- at or past what the number after the last would be
+  -- at or past the number that would follow the largest
   lies-over : (x : Exact) → Sound x → Over x (2 * units f (inf f)) → Lies f x (inf f - 1) 3
   lies-over x s o = let q = below-is f x s m from in (q, location-above-is f x m q ∙ tells at-m reached past)
     where

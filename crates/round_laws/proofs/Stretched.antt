@@ -1,4 +1,4 @@
--- The cut of u times 2 ^ n, where s is u moved up by z locations. Assumes nothing.
+-- The location of u times 2 ^ n, where s is u shifted left by z bits. Assumes nothing.
 use Prim.Native.Nat.{ℕ, suc, _+_, _*_, _^_, _<_}
 use mathlib.Core.Path.{_≡_, refl, sym, ap, _∙_}
 use native.Mathlib.Omega.{arith}
@@ -25,7 +25,7 @@ same-ratio n d k e p q h s =
     let b = ratio-at-most k e n d q p (omega arith) in
     record { above = (a .ups s, b .ups s); below = (b .downs s, a .downs s) }
 
--- what compares alike lies alike
+-- values that compare alike have the same neighbour and location
 pub same-lies : (f : Format) (x y : Exact) → ((s : ℕ) → Beside x y s) → {m p : ℕ} → Lies f y m p → Lies f x m p
 unfolding below
 same-lies f x y b {m} {p} l =

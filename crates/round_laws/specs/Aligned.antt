@@ -1,4 +1,4 @@
--- Where a cut stands, as three numbers. Assumes nothing.
+-- A normalised value aligned to the format, by three numbers. Assumes nothing.
 use Prim.Native.Nat.{ℕ, _+_, _-_, _*_, _/_, _%_, _^_, _≤_, _<_}
 use mathlib.Core.Path.{_≡_}
 use Rattle.ieee.specs.Exact.{Exact, ratio}
@@ -9,7 +9,7 @@ use Rattle.fmt_fields.specs.Width.{format}
 abbrev pub filledAt : ℕ → ℕ → Exact
 filledAt s at = ratio (s * 2 ^ (at - 2 ^ 21)) (2 ^ (2 ^ 21 - at))
 
--- its cut is that of the last k bits of t, and the exponent field is up more than those give
+-- its lower neighbour and location are those of t without its last k bits, with up added to the exponent field
 pub record Stands (p e s at t up k : ℕ) : Type 0 where
   pub lower : up * 2 ^ p + t / 2 ^ k ≡ below (format p e) (filledAt s at)
   pub part-is : part (t % 2 ^ k) (2 ^ k) ≡ location (format p e) (filledAt s at)

@@ -1,4 +1,4 @@
--- Rounding in two steps: the cut finds the finite magnitude below and the location above it, and the choice takes that magnitude or the next. Assumes nothing.
+-- Rounding in two steps: locate finds the lower neighbour and the location, and choose takes that neighbour or the next. Assumes nothing.
 use Prim.Native.Nat.{ℕ, suc, _+_, _*_, _%_, _^_}
 use mathlib.Core.Bool.{cond}
 use lib.Dec.{leb, ltb, eqb}
@@ -27,7 +27,7 @@ chosen away m p = m + cond (leb 2 p) 1 0
 chosen shorter m p = m
 chosen longer m p = m + cond (eqb p 0) 0 1
 
--- the location of r from 0 up, where d is the next
+-- the location of r between 0 and d
 abbrev pub part : ℕ → ℕ → ℕ
 part r d = cond (eqb r 0) 0 (cond (leb d (2 * r)) (cond (leb (2 * r) d) 2 3) 1)
 

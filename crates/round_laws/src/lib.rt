@@ -1,1 +1,1 @@
-// The cut of the rounding step, the pattern below a value and the location of the value above it: the definitions and the lemmas.
+// Laws of the rounding step, lower neighbour and location of a value: definitions and lemmas, no function.

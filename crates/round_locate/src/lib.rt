@@ -1,4 +1,4 @@
-// A significand and an exponent brought between two neighbours of the format.
+// The lower neighbour and the location of a significand times a power of two.
 pub mod locate;
 pub mod normalise;
 pub mod shift_out;

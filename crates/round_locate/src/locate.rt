@@ -1,4 +1,4 @@
-// The cut: a significand and an exponent brought between two neighbours of the format.
+// Locates a significand times a power of two: its lower neighbour in the format, and its location.
 ghost use mathlib.Core.Path.{_≡_};
 ghost use Prim.Native.Nat.{_≤_, _<_, _^_};
 ghost use lib.Signed.{mag};
@@ -9,10 +9,10 @@ use crate::normalise::normalise;
 use crate::shift_out::shift_out;
 use word_bits::pow;
 
-// What normalised exponents are counted from: -2^21.
+// The offset of normalised exponents: 2^21.
 const LIFT: u32 = 2097152;
 
-// What is left to cut: k bits of sig, and the exponent field is up more.
+// The last k bits of sig are to be shifted out; up is added to the exponent field.
 struct Step {
     sig: u64,
     up: u64,
@@ -24,9 +24,9 @@ pub struct Located {
     pub location: u64,
 }
 
-// Below the least normal number k bits go, or all of them, and then they are less than half of a unit: one bit far down stands for them.
-// From there on the bits go that the format has no room for. Past the largest finite number that one is the lower neighbour, and the location is
-// beyond the middle, as for a significand of ones under the last exponent. No case has work of its own, so that none needs a jump.
+// Below the least normal number k bits are shifted out, or all of them: then they are less than half a unit, and one bit far down stands for them.
+// From there on the bits that the format has no room for are shifted out. A value past the largest finite number is treated as a significand of ones
+// under the last exponent: that number is the lower neighbour, and the location is past the middle. The cases only pick values, so none needs a jump.
 fn align(frac: u32, expo: u32, sig: u64, at: u32) -> Step
     requires { ⌜ Fits frac expo × (2 ^ 63 ≤ sig) × (at < 2 ^ 22) ⌝ }
     ensures { λ r. ⌜ Stands frac expo sig at (r .sig) (r .up) (r .k) ⌝ }
@@ -58,7 +58,7 @@ fn align(frac: u32, expo: u32, sig: u64, at: u32) -> Step
     Step { sig, up, k: extra }
 }
 
-// sig times 2^exp smallest units of a format, between two neighbours: the lower, and the location of the value between them.
+// The lower neighbour and the location of sig times 2^exp smallest units.
 pub fn locate(frac: u32, expo: u32, sig: u64, exp: i32) -> Located
     requires { ⌜ Fits frac expo × (mag exp ≤ 2 ^ 20) ⌝ }
     ensures { λ r. ⌜ (r .below ≡ below (format frac expo) (stretched sig exp)) × (r .location ≡ location (format frac expo) (stretched sig exp)) ⌝ }

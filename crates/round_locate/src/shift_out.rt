@@ -1,4 +1,4 @@
-// A word that sheds its last bits, and the location of what goes.
+// Shifts the last bits out of a word and finds their location.
 ghost use mathlib.Core.Path.{_≡_};
 ghost use mathlib.Core.Bool.{cond};
 ghost use Prim.Native.Nat.{_/_, _%_, _^_, _≤_};
@@ -11,15 +11,15 @@ pub struct ShiftedOut {
     pub location: u64,
 }
 
-// The sticky mark: whether anything is there.
+// The sticky mark: 1 unless x is 0.
 pub fn sticky_bit(x: u64) -> u64
     ensures { λ r. ⌜ r ≡ cond (eqb x 0) 0 1 ⌝ }
 {
     if x == 0 { 0 } else { 1 }
 }
 
-// s without its last k bits, and the location of these, as a part of what the last bit kept counts: nothing, less than half, half, more.
-// Both are read from the bits that are about to go.
+// s without its last k bits, and the location of these: 0 for none set, 1 for less than half of the last kept bit, 2 for half, 3 for more.
+// Both are read from s before the shift.
 pub fn shift_out(s: u64, k: u32) -> ShiftedOut
     requires { ⌜ (1 ≤ k) × (k ≤ 64) ⌝ }
     ensures { λ r. ⌜ (r .kept ≡ s / 2 ^ k) × (r .location ≡ part (s % 2 ^ k) (2 ^ k)) ⌝ }

@@ -1,4 +1,4 @@
--- From 2 ^ (frac + c) on, all that decides lies on the grid of steps 2 ^ c, so values that compare alike with the grid round alike. Assumes nothing.
+-- From 2 ^ (frac + c) on, every number and every middle is a multiple of 2 ^ c, the grid, so values that compare alike with the grid round alike. Assumes nothing.
 use Prim.Native.Nat.{ℕ, zero, suc, _+_, _-_, _*_, _/_, _%_, _^_, _≤_, _<_}
 use mathlib.Core.Path.{_≡_, sym, ap, _∙_, subst}
 use native.Mathlib.Omega.{arith, by-contra}
@@ -24,7 +24,7 @@ module _ (f : Format) (c : ℕ) where
   pub start-units : units f (start f c) ≡ 2 ^ (f .frac + c)
   start-units = ap (units f) (omega arith) ∙ units-at f (suc c) 0 (pow-pos (f .frac)) ∙ omega (arith, pow-add 2 (f .frac) c)
 
-  -- from there on, magnitudes are on the grid
+  -- from there on, magnitudes lie on the grid
   fields-multiple : (q r : ℕ) → suc c ≤ q → Multiple (2 ^ c) (fields (2 ^ f .frac) q r)
   fields-multiple zero r l = absurd (omega arith)
   fields-multiple (suc e) r l =
@@ -38,7 +38,7 @@ module _ (f : Format) (c : ℕ) where
       let (k, e) = fields-multiple (j / 2 ^ f .frac) (j % 2 ^ f .frac) q in
       (k, units-is f j ∙ e)
 
-  -- so twice a magnitude is on the grid or below twice its start, and so is a sum of neighbours
+  -- so twice a magnitude lies on the grid or below twice its start, and so does a sum of neighbours
   pub twice-grid : (j : ℕ) {G : Type 0} → (Multiple (2 ^ c) (2 * units f j) → G) → (2 * units f j < 2 * units f (start f c) → G) → G
   twice-grid j on off = order (start f c) j (λ l. on (let (k, e) = units-multiple j l in (2 * k, omega arith))) (λ l. off (omega (arith, units-lt f l)))
 
@@ -54,7 +54,7 @@ module _ (f : Format) (c : ℕ) where
   location-grid shorter j on off = twice-grid (suc j) on off
   location-grid longer j on off = twice-grid j on off
 
--- two values past s are on one side of what is below s
+-- two values past s compare alike with anything below s
 pub beside-below : (x y : Exact) → Sound x → Sound y → {s t : ℕ} → s < t → Over x t → Over y t → Beside x y s
 beside-below x y p q l o v =
     record {
@@ -62,7 +62,7 @@ beside-below x y p q l o v =
       below = (λ h. absurd (apart x p l h o), λ h. absurd (apart y q l h v));
     }
 
--- at c = 0 the grid is all that decides anywhere; above, x and y must be at least at its start
+-- at c = 0 the grid alone decides; for larger c, x and y must be at or past its start
 pub alike-on-grid : (f : Format) (w : Way) (c : ℕ) (x y : Exact) → Sound x → Sound y
     → (0 < c → Over x (2 * 2 ^ (f .frac + c)) × Over y (2 * 2 ^ (f .frac + c))) → ((k : ℕ) → Beside x y (k * 2 ^ c)) → rounded f w x ≡ rounded f w y
 alike-on-grid f w zero x y p q o b = same-side f w x y (λ j l. subst (Beside x y) (omega arith) (b (Places f w j)))

@@ -1,4 +1,4 @@
--- The answers of marked values: fractions marked as whole numbers are, roots by their whole root. Assumes nothing.
+-- The answers of marked values: of ratios by the mark of the numerator, of roots by their whole root. Assumes nothing.
 use Prim.Native.Nat.{ℕ, zero, suc, _+_, _-_, _*_, _^_, _≤_, _<_}
 use mathlib.Core.Path.{_≡_, refl, sym, ap, _∙_}
 use mathlib.Core.Bool.{Bool, false}
@@ -28,7 +28,7 @@ ratio-marked v n d s p m =
       less = λ q h. omega (arith, times-le d (m .less q));
     }
 
--- the answer to v / 2 ^ b is that to its mark; z is the sign of a zero, t that of the value
+-- the answer for v / 2 ^ b is that for its mark; z is the sign of a zero, t that of the value
 pub sticky-answer : (f : Format) (g : Attribute) (z t : Bool) (v s a b : ℕ) (n : ℤ) → 0 < v → up n + b ≡ dn n + a
     → Marks v (2 ^ a) s → (b < a + 2 → 2 ^ (2 + f .frac) ≤ s) → answer f g z (dyadic (withSign t v) b) ≡ answer f g t (scaled t s n)
 sticky-answer f g z t v s a b n p e m h =
@@ -36,7 +36,7 @@ sticky-answer f g z t v s a b n p e m h =
     ∙ ap (signed f t) (sticky f (wayOf g t) (ratio v (2 ^ b)) (pow-pos b) s a b n e (ratio-marked v (2 ^ a) (2 ^ b) s (pow-pos b) m) h)
     ∙ sym (answer-scaled f g t s n)
 
--- ---- the root of v, where v is k squares of the double step and t the whole root of k: t and a bit b that says that something is left
+-- ---- the root of v, where v is k squares of the double step and t the whole root of k: 2 * t, plus a bit b that is set where a remainder is left
 pub root-marked : (v n k t b : ℕ) → 0 < n → v ≡ k * (2 * n * (2 * n)) → Root k t
     → b ≤ 1 → (b ≡ 0 → t * t ≡ k) → (b ≡ 1 → t * t ≡ k → ⊥) → Marked (root v) n (2 * t + b)
 root-marked v n k t zero p e r l z h =
@@ -53,7 +53,7 @@ root-marked v n k t (suc zero) p e r l z h =
     }
 root-marked v n k t (suc (suc b)) p e r l z h = absurd (omega arith)
 
--- and the answer to a root that to its mark
+-- the answer for a root is that for its mark
 pub sticky-root-answer : (f : Format) (g : Attribute) (z : Bool) (v s a b : ℕ) (n : ℤ) → 0 < v → up n + b ≡ dn n + a
     → Marked (magnified (root v) (2 ^ b)) (2 ^ a) s → (b < a + 2 → 2 ^ (2 + f .frac) ≤ s) → answer f g z (surd v) ≡ answer f g false (scaled false s n)
 unfolding answer

@@ -1,4 +1,4 @@
--- The flags of marked values are those of their marks, beside `sticky-answer` and `sticky-root-answer`; and one value in two forms raises the same. Assumes nothing.
+-- The flags of marked values are those of their marks, as for `sticky-answer` and `sticky-root-answer`; two forms of one value raise the same flags. Assumes nothing.
 use Prim.Native.Nat.{ℕ, zero, suc, _+_, _-_, _*_, _^_, _≤_, _<_}
 use mathlib.Core.Path.{_≡_, sym, ap, _∙_}
 use mathlib.Core.Bool.{Bool, false}

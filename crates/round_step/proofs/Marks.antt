@@ -1,11 +1,11 @@
--- Marks of whole numbers: of a quotient whose remainder is lost, of sums, and of marks. Assumes nothing.
+-- Marks of whole numbers: of a quotient without its remainder, of sums, and of marks. Assumes nothing.
 use Prim.Native.Nat.{ℕ, suc, _+_, _-_, _*_, _/_, _%_, _≤_, _<_}
 use mathlib.Core.Path.{_≡_}
 use native.Mathlib.Omega.{arith}
 use Rattle.algebra.proofs.Products.{order, times, times-le, diff}
 use Rattle.round_step.specs.Mark.{Marks}
 
--- v is t steps and r more; the mark is t, and odd where r is lost
+-- v is t steps and r more; the mark is t, made odd where r is lost
 pub marks-location : (v n t r s : ℕ) → v ≡ t * n + r → r < n → (r ≡ 0 → s ≡ t) → (0 < r → s ≡ t / 2 * 2 + 1) → Marks v n s
 marks-location v n t r s e l z h =
     order 1 r
@@ -25,7 +25,7 @@ module _ {v n s : ℕ} (m : Marks v n s) where
         less = λ q. omega (arith, times-le d (m .less q));
       }
 
-  -- ---- an even count k of steps, exactly, more or less
+  -- ---- an even count k of steps, added or subtracted
   pub marks-sum : (k : ℕ) → k % 2 ≡ 0 → Marks (k * n + v) n (k + s)
   marks-sum k e =
       record {

@@ -1,4 +1,4 @@
--- The cut and the choice make the answer, and all of it fits in a word. Assumes nothing.
+-- Locate and choose give the answer, and all of it fits in a word. Assumes nothing.
 use Prim.Native.Nat.{ℕ, suc, _+_, _%_, _^_, _≤_, _<_}
 use mathlib.Core.Path.{_≡_, sym, ap, ap₂, _∙_}
 use mathlib.Core.Bool.{Bool, true, false, cond}
@@ -30,7 +30,7 @@ chosen-le away m p = one-more (leb 2 p) m
 chosen-le shorter m p = omega arith
 chosen-le longer m p = none-more (eqb p 0) m
 
--- a finite magnitude, and what is chosen of it and the next, stay below the sign bit
+-- a finite magnitude, and the choice between it and the next, stay below the sign bit
 module _ {p e : ℕ} (w : Fits p e) (m : ℕ) (l : m < inf (format p e)) where
   pub finite-in-word : m < 2 ^ 63
   finite-in-word = omega (arith, inf-below-top (format p e), pow-mono {i = p + e} {j = 63} (w .word))
@@ -38,7 +38,7 @@ module _ {p e : ℕ} (w : Fits p e) (m : ℕ) (l : m < inf (format p e)) where
   pub chosen-in-word : (v : Way) (q : ℕ) → chosen v m q < 2 ^ (p + e)
   chosen-in-word v q = omega (arith, chosen-le v m q, inf-below-top (format p e))
 
--- what the two steps leave is the answer
+-- the two steps give the answer
 pub round-is : (f : Format) → Fair f → (s : Bool) (u : ℕ) (n : ℤ) (m p r : ℕ) → m ≡ below f (stretched u n) → p ≡ location f (stretched u n) → r ≡ signed f s (chosen even m p)
     → r ≡ answer f ties-to-even s (scaled s u n)
 round-is f g s u n m p r a b e = e ∙ ap (signed f s) (ap₂ (chosen even) a b) ∙ sym (answer-chosen f g ties-to-even s u n)

@@ -1,4 +1,4 @@
--- The answer to u times 2 ^ n: chosen by the cut, and the same for every form of one value. Assumes nothing.
+-- The answer for u times 2 ^ n: chosen by the location, and the same for every form of one value. Assumes nothing.
 use Prim.Native.Nat.{ℕ, suc, _+_, _*_, _^_}
 use mathlib.Core.Path.{_≡_, sym, ap, _∙_}
 use mathlib.Core.Bool.{Bool}

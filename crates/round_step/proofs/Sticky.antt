@@ -1,4 +1,4 @@
--- A value may be cut to a count of steps whose last bit says that something was lost, and rounds as the count does. Assumes nothing.
+-- A value truncated to a count of steps with a sticky mark rounds as the count does. Assumes nothing.
 use Prim.Native.Nat.{ℕ, suc, _+_, _-_, _*_, _%_, _^_, _≤_, _<_}
 use mathlib.Core.Path.{_≡_, sym, ap, _∙_, subst}
 use mathlib.Core.Logic.{_↔_}
@@ -17,7 +17,7 @@ use Rattle.round_step.specs.Mark.{Marked}
 use Rattle.round_laws.proofs.Stretched.{ratio-stretched}
 use Rattle.round_step.proofs.Grid.{alike-on-grid}
 
--- ---- x times d compares with s times d as x with s
+-- ---- x times d compares with s times d as x does with s
 magnified-sound : (x : Exact) (d : ℕ) → Sound x → Sound (magnified x d)
 magnified-sound (ratio p q) d s = s
 magnified-sound (root p) d s = tt
@@ -58,7 +58,7 @@ module _ (x : Exact) (n s : ℕ) (p : Sound x) (l : 0 < n) (m : Marked x n s) wh
 
 -- ---- so, where the steps are small enough, x rounds as its mark does
 module _ (x : Exact) (p : Sound x) (s a b : ℕ) (m : Marked (magnified x (2 ^ b)) (2 ^ a) s) where
-  -- at a location t that is an even count of steps
+  -- at a number t that is an even count of steps
   beside-even : (t k : ℕ) → t * 2 ^ b ≡ 2 * (2 * k * 2 ^ a) → Beside x (ratio (s * 2 ^ a) (2 ^ b)) t
   beside-even t k e =
       let X : Exact = magnified x (2 ^ b) in
@@ -76,7 +76,7 @@ module _ (x : Exact) (p : Sound x) (s a b : ℕ) (m : Marked (magnified x (2 ^ b
         );
       }
 
-  -- and so on the grid of steps 2 ^ c, which are four steps of the mark or more
+  -- so on the grid of steps 2 ^ c, each at least four steps of the mark
   pub beside-grid : (c : ℕ) → a + 2 ≤ b + c → (k : ℕ) → Beside x (ratio (s * 2 ^ a) (2 ^ b)) (k * 2 ^ c)
   beside-grid c l k =
       let e : ℕ = b + c - (a + 2) in
@@ -92,8 +92,8 @@ module _ (x : Exact) (p : Sound x) (s a b : ℕ) (m : Marked (magnified x (2 ^ b
       past : 0 < c → Over x (2 * 2 ^ (f .frac + c))
       past z = subst (Over x) start (beside-grid c l (2 * 2 ^ f .frac) .above .1 (omega (arith, h z, times (2 ^ b) start)))
 
-  -- x is s steps of 2 ^ a / 2 ^ b where s is even, and lies between s - 1 and s + 1 steps where s is odd. What decides a rounding is half a gap or a
-  -- multiple of it, so if a gap has four steps or more it is an even count of steps, and x and s steps are on one side of it. A gap has as many where
+  -- x is s steps of 2 ^ a / 2 ^ b where s is even, and lies between s - 1 and s + 1 steps where s is odd. A rounding is decided by multiples of half a
+  -- gap. If a gap has at least four steps, these are even counts of steps, and x and s steps lie on the same side of each. A gap has as many where
   -- a step is at most a quarter of the smallest unit, or where s has two bits more than the format keeps.
   pub sticky-ratio : (f : Format) (w : Way) → (b < a + 2 → 2 ^ (2 + f .frac) ≤ s) → rounded f w x ≡ rounded f w (ratio (s * 2 ^ a) (2 ^ b))
   sticky-ratio f w h =
@@ -103,7 +103,7 @@ module _ (x : Exact) (p : Sound x) (s a b : ℕ) (m : Marked (magnified x (2 ^ b
       let level : 2 ^ (f .frac + c) * 2 ^ b ≡ 2 ^ (2 + f .frac + a) = sym (pow-add 2 (f .frac + c) b) ∙ ap (λ i. 2 ^ i) (omega arith) in
       rounds-by f w c (omega arith) (λ z. omega (arith, level, pow-add 2 (2 + f .frac) a, times-le (2 ^ a) (h (omega arith)))))
 
--- the same, the step written 2 ^ n
+-- the same, with the step written 2 ^ n
 pub sticky : (f : Format) (w : Way) (x : Exact) → Sound x → (s a b : ℕ) (n : ℤ) → up n + b ≡ dn n + a
     → Marked (magnified x (2 ^ b)) (2 ^ a) s → (b < a + 2 → 2 ^ (2 + f .frac) ≤ s) → rounded f w x ≡ rounded f w (stretched s n)
 sticky f w x p s a b n e m h = sticky-ratio x p s a b m f w h ∙ ratio-stretched f w s a b n e

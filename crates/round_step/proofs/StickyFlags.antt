@@ -1,4 +1,4 @@
--- A value cut to a count of steps whose last bit says that something was lost raises the flags of the count, where a step is at most an eighth of the smallest unit
+-- A value truncated to a count of steps with a sticky mark raises the flags of the count, where a step is at most an eighth of the smallest unit
 -- or the count has two bits more than the format keeps. Assumes nothing.
 use Prim.Native.Nat.{ℕ, zero, suc, _+_, _-_, _*_, _^_, _≤_, _<_}
 use mathlib.Core.Path.{_≡_, sym, ap, _∙_, subst}
@@ -39,11 +39,11 @@ module _ (x : Exact) (p : Sound x) (s a b : ℕ) (m : Marked (magnified x (2 ^ b
   abbrev y : Exact
   y = ratio (s * 2 ^ a) (2 ^ b)
 
-  -- the step is at most a quarter: every number and every middle is an even count
+  -- a step is at most a quarter: every number and every middle is an even count
   near : a + 2 ≤ b → (t : ℕ) → Beside x y t
   near l t = subst (Beside x y) (omega arith) (beside-grid x p s a b m 0 (omega arith) t)
 
-  -- the mark stands at or above 2 ^ (frac + c), and so does x
+  -- the mark is at least 2 ^ (frac + c), and so is x
   module _ (f : Format) (c : ℕ) (e : b + c ≡ a + 2) (h : 2 ^ (2 + f .frac) ≤ s) where
     level : 2 ^ (f .frac + c) * 2 ^ b ≡ 2 ^ (2 + f .frac + a)
     level = sym (pow-add 2 (f .frac + c) b) ∙ ap (λ i. 2 ^ i) (omega arith)
@@ -72,7 +72,7 @@ module _ (x : Exact) (p : Sound x) (s a b : ℕ) (m : Marked (magnified x (2 ^ b
           at-quarters = past-quarters f x y p (pow-pos b) (over-down x (omega arith) value-past) (over-down y (omega arith) mark-past);
         }
 
--- a value doubled, in half as many steps to the unit
+-- a value doubled, with half as many steps to the unit
 halved : (x : Exact) (b : ℕ) → magnified (magnified x 2) (2 ^ b) ≡ magnified x (2 ^ suc b)
 halved (ratio n d) b = ap (λ c. ratio c d) (omega (arith, times n (two-pow-succ b)))
 halved (root n) b = ap root (omega (arith, two-pow-succ b, squares (2 ^ b) (2 ^ suc b) (omega (arith, two-pow-succ b))))

@@ -1,4 +1,4 @@
--- The sticky mark: a count of steps that is exact where it is even, and where it is odd says only between which even counts the value lies. Assumes nothing.
+-- The sticky mark: an even count of steps is exact; an odd one says only that the value lies between the two even counts beside it. Assumes nothing.
 use Prim.Native.Nat.{ℕ, suc, _+_, _-_, _*_, _%_, _<_}
 use mathlib.Core.Path.{_≡_}
 use Rattle.ieee.specs.Exact.{Exact, Over, Under}
@@ -9,7 +9,7 @@ pub record Marks (v n s : ℕ) : Type 0 where
   pub more : s % 2 ≡ 1 → s * n < v + n
   pub less : s % 2 ≡ 1 → v < s * n + n
 
--- the same of an exact value
+-- the same for an exact value
 pub record Marked (x : Exact) (n s : ℕ) : Type 0 where
   pub exact : s % 2 ≡ 0 → Over x (2 * (s * n)) × Under x (2 * (s * n))
   pub more : s % 2 ≡ 1 → Under x (2 * ((s - 1) * n)) → ⊥

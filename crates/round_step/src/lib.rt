@@ -1,3 +1,3 @@
-// The one rounding step that every rounded operation ends in: a cut, and a choice.
+// The rounding step that every rounded operation ends in: locate, then choose.
 pub mod choose;
 pub mod round;

@@ -1,4 +1,4 @@
-// The rounding step: a sign, a significand and an exponent to the nearest pattern.
+// The rounding step: rounds a sign, a significand and an exponent to the nearest pattern.
 ghost use mathlib.Core.Path.{_≡_};
 ghost use Prim.Native.Nat.{_≤_, _<_, _^_};
 ghost use lib.Signed.{mag};
@@ -12,7 +12,7 @@ use crate::choose::nearest_even;
 use fmt_fields::with_sign;
 use round_locate::locate::locate;
 
-// What a cut found, settled: the choice, and the sign. Every rounding ends here, overflow too, where the lower neighbour is the largest number.
+// Chooses between the lower neighbour and the next, and sets the sign. Every rounding ends here, including overflow, where the lower neighbour is the largest number.
 pub fn choose_and_sign(frac: u32, expo: u32, neg: bool, below: u64, location: u64) -> u64
     requires { ⌜ Fits frac expo × (below < inf (format frac expo)) × (location ≤ 3) ⌝ }
     ensures { λ r. ⌜ r ≡ signed (format frac expo) neg (chosen even below location) ⌝ }
@@ -20,8 +20,8 @@ pub fn choose_and_sign(frac: u32, expo: u32, neg: bool, below: u64, location: u6
     with_sign(frac, expo, neg, nearest_even(below, location))
 }
 
-// sig times 2^exp smallest units of a format, with a sign, rounded once. The last bit of sig may be a sticky mark: a value that was cut to such
-// a sig rounds as it does, where sig has two bits more than the format keeps, the mark one of them (`sticky-answer` in proofs/).
+// sig times 2^exp smallest units of a format, with a sign, rounded once. The last bit of sig may be a sticky mark: if sig has two bits more than the
+// format keeps, the mark among them, it rounds as the value that it stands for (`sticky-answer` in proofs/).
 pub fn round(frac: u32, expo: u32, neg: bool, sig: u64, exp: i32) -> u64
     requires { ⌜ Fits frac expo × (mag exp ≤ 2 ^ 20) ⌝ }
     ensures { λ r. ⌜ r ≡ answer (format frac expo) ties-to-even neg (scaled neg sig exp) ⌝ }

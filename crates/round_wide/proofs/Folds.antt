@@ -1,4 +1,4 @@
--- Two words, of which the upper is not 0, without as many bits as leave one word with its top bit set. Assumes nothing.
+-- Two words, the upper not 0, without the bits that leave one word with its top bit set. Assumes nothing.
 use Prim.Native.Nat.{ℕ, _+_, _-_, _*_, _/_, _%_, _^_, _≤_, _<_}
 use mathlib.Core.Path.{_≡_, sym, ap, _∙_}
 use mathlib.Core.Bool.{Bool}
@@ -23,7 +23,7 @@ use Rattle.round_wide.specs.Stuck.{stuck}
 use Rattle.round_wide.proofs.Stuck.{stuck-exact, stuck-lost, stuck-answer}
 use Rattle.round_wide.proofs.Told.{told, stuck-told}
 
--- ---- to a base B, which is n * m: moved up by n, the base's multiples are those of m
+-- ---- in base B, which is n * m: shifted up by n, multiples of the base are multiples of m
 module _ (B n m h l : ℕ) (base : n * m ≡ B) (n-positive : 0 < n) (m-positive : 0 < m) where
   lower : (l * n / B ≡ l / m) × (l * n % B ≡ l % m * n)
   lower =
@@ -35,11 +35,11 @@ module _ (B n m h l : ℕ) (base : n * m ≡ B) (n-positive : 0 < n) (m-positive
       let (e, r) = div-mod l m m-positive in
       div-is (h * B + l) m (h * n + l / m) (l % m) r (omega (arith, e, times h base))
 
-  -- the upper word, with what passes the lower
+  -- the upper word, with the carry of the lower
   pub kept-is : h * n + l * n / B ≡ (h * B + l) / m
   kept-is = omega (arith, lower .0, both .0)
 
-  -- and what stays in the lower is what is lost
+  -- the rest of the lower word is what is lost
   pub rest-tells : ltb 0 (l * n % B) ≡ ltb 0 ((h * B + l) % m)
   rest-tells =
       ap (ltb 0) (lower .1) ∙ same-test 0 (l % m * n) 0 (l % m) (λ p. mul-lt-cancel 0 (l % m) n (omega arith)) (λ p. mul-le-cancel (l % m) 0 n n-positive (omega arith)) ∙ ap (ltb 0) (sym (both .1))
@@ -50,11 +50,11 @@ module _ (B n m h l : ℕ) (base : n * m ≡ B) (n-positive : 0 < n) (m-positive
       let v : l / m < n = div-lt-iff-lt-mul {k = m} {x = l} {y = n} m-positive .1 (omega (arith, base)) in
       omega (arith, lower .0, digits-lt u v, base)
 
--- a mark takes nothing away
+-- a mark only adds
 pub stuck-least : (v k : ℕ) → v / 2 ^ k ≤ stuck v k
 stuck-least v k = order 1 (v % 2 ^ k) (λ l. omega (arith, stuck-lost v k l)) (λ l. omega (arith, stuck-exact v k (omega arith)))
 
--- ---- by the zeros z before the upper word h
+-- ---- by the leading zeros z of the upper word h
 module _ (w h l z : ℕ) (fills : Fills w h z) where
   base : 2 ^ z * 2 ^ (w - z) ≡ 2 ^ w
   base = omega (arith, pow-diff {a = w} {b = z} (omega (arith, fills .fewer)))
@@ -62,7 +62,7 @@ module _ (w h l z : ℕ) (fills : Fills w h z) where
   moved : h * 2 ^ z % 2 ^ w ≡ h * 2 ^ z
   moved = mod-eq-of-lt (fills .most)
 
-  -- x is the upper word with what passes the lower
+  -- x is the upper word with the carry of the lower
   pub folded-fits : (x : ℕ) → l < 2 ^ w → x ≡ h * 2 ^ z % 2 ^ w + l * 2 ^ z / 2 ^ w → x < 2 ^ w
   folded-fits x p e = omega (arith, moved, kept-fits (2 ^ w) (2 ^ z) (2 ^ (w - z)) h l base (pow-pos z) (pow-pos (w - z)) p (fills .most))
 
@@ -87,7 +87,7 @@ folded-answer {p} {e} f g t h l n a b =
     let bits = pow-mono {i = 2 + p} {j = 63} (omega (arith, f .word, f .fair .expo-two)) in
     stuck-answer (format p e) g t (h * 2 ^ 64 + l) k n (omega arith) (omega arith)
 
--- and its exponent stays in reach
+-- and its exponent stays within reach
 pub raised-small : (n : ℤ) (k : ℕ) → mag n < 2 ^ 20 - 64 → k ≤ 64 → mag (n +ℤ pos k) ≤ 2 ^ 20
 raised-small n k p q =
     let a = addZ n (pos k) in

@@ -1,4 +1,4 @@
--- What a number without its last bits keeps: it marks the number, and rounds as the number does. Assumes nothing.
+-- A number without its last bits, with a sticky mark, marks the number and rounds as it does. Assumes nothing.
 use Prim.Native.Nat.{ℕ, zero, suc, _+_, _*_, _/_, _%_, _^_, _≤_, _<_}
 use mathlib.Core.Path.{_≡_, sym, ap, _∙_}
 use mathlib.Core.Bool.{Bool, cond}
@@ -36,7 +36,7 @@ stuck-marks v k =
     let (e, l) = div-mod v (2 ^ k) (pow-pos k) in
     marks-location v (2 ^ k) (v / 2 ^ k) (v % 2 ^ k) (stuck v k) (sym e) l (stuck-exact v k) (stuck-lost v k)
 
--- a number that keeps two bits more than the format does rounds as it did
+-- a number that keeps two bits more than the format rounds as before
 pub stuck-answer : (f : Format) (g : Attribute) (t : Bool) (v k : ℕ) (e : ℤ) → 0 < v → 2 ^ (2 + f .frac) ≤ stuck v k
     → answer f g t (scaled t v e) ≡ answer f g t (scaled t (stuck v k) (e +ℤ pos k))
 stuck-answer f g t v k (pos n) p h =
@@ -45,14 +45,14 @@ stuck-answer f g t v k (pos n) p h =
 stuck-answer f g t v k (negsuc n) p h =
     sticky-answer f g t t v (stuck v k) k (suc n) (negsuc n +ℤ pos k) p (omega (arith, addZ (negsuc n) (pos k))) (stuck-marks v k) (λ l. h)
 
--- ---- how large it is
+-- ---- its size
 pub stuck-le : (v k : ℕ) → stuck v k ≤ v
 stuck-le v k =
     let (e, l) = div-mod v (2 ^ k) (pow-pos k) in
     let m : v / 2 ^ k * 1 ≤ v / 2 ^ k * 2 ^ k = omega (arith, times-le (v / 2 ^ k) (pow-pos k)) in
     order 1 (v % 2 ^ k) (λ h. omega (arith, stuck-lost v k h)) (λ h. omega (arith, stuck-exact v k (omega arith)))
 
--- what lost a bit or more is at most half, and the mark
+-- a number that lost a bit or more is at most half, plus the mark
 pub stuck-half : (v k : ℕ) → 0 < k → 2 * stuck v k ≤ v + 2
 stuck-half v zero p = absurd (omega arith)
 stuck-half v (suc k) p =

@@ -1,4 +1,4 @@
--- A quotient and whether anything was lost tell the number without its last bits. Assumes nothing.
+-- A quotient, and whether anything was lost, make up the number without its last bits. Assumes nothing.
 use Prim.Native.Nat.{ℕ, _+_, _*_, _/_, _%_, _^_}
 use mathlib.Core.Path.{_≡_, sym, ap, ap₂, _∙_}
 use mathlib.Core.Bool.{Bool, true, false, cond}
@@ -9,7 +9,7 @@ use Rattle.algebra.proofs.Products.{order}
 use Rattle.round_wide.specs.Stuck.{stuck}
 use Rattle.round_wide.proofs.Stuck.{stuck-exact, stuck-lost}
 
--- a number whose last bit is set, where something was lost
+-- a number with its last bit set where something was lost
 abbrev pub told : Bool → ℕ → ℕ
 told lost w = cond lost (w / 2 * 2 + 1) w
 
@@ -20,7 +20,7 @@ stuck-told v k w lost e f =
     (λ l. ap (λ t. told t (v / 2 ^ k)) (lt-ltb 0 (v % 2 ^ k) l) ∙ sym (stuck-lost v k l))
     (λ l. ap (λ t. told t (v / 2 ^ k)) (le-ltb 0 (v % 2 ^ k) (omega arith)) ∙ sym (stuck-exact v k (omega arith)))
 
--- of two words to an even base, the lower one takes the mark
+-- of two words in an even base, the lower one takes the mark
 told-lower : (b h l : ℕ) (lost : Bool) → h * (2 * b) + told lost l ≡ told lost (h * (2 * b) + l)
 told-lower b h l true = omega arith
 told-lower b h l false = omega arith

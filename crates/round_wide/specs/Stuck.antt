@@ -1,8 +1,8 @@
--- A number without its last bits, in which one bit keeps whether anything was lost. Assumes nothing.
+-- A number without its last bits, with a sticky mark. Assumes nothing.
 use Prim.Native.Nat.{ℕ, _+_, _*_, _/_, _%_, _^_}
 use mathlib.Core.Bool.{cond}
 use lib.Dec.{eqb}
 
--- v without its last k bits; where any of these was 1, the last bit that stays is 1
+-- v without its last k bits; the last remaining bit is 1 where any of these was 1
 unfoldable pub stuck : ℕ → ℕ → ℕ
 stuck v k = cond (eqb (v % 2 ^ k) 0) (v / 2 ^ k) (v / 2 ^ k / 2 * 2 + 1)

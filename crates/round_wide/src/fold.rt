@@ -1,4 +1,4 @@
-// The rounding of a number of two words: folded into one, whose last bit is the sticky mark, and rounded once.
+// Rounds a two-word number: folds it into one word, whose last bit is the sticky mark, and rounds once.
 ghost use mathlib.Core.Path.{_≡_};
 ghost use Prim.Native.Nat.{_-_, _≤_, _<_, _^_};
 ghost use lib.Count.{leadingZeros};
@@ -14,14 +14,14 @@ use round_step::round::round;
 use word_bits::shl_carry;
 use word_wide::Wide;
 
-// A number without its last `down` bits, which left their mark.
+// A number without its last `down` bits, which left a sticky mark.
 pub struct Folded {
     pub sig: u64,
     pub down: u32,
 }
 
-// Two words, of which the high one is not 0, folded into one that has its top bit set. Moved up by the zeros before it, the high word takes what
-// passes the low one, and what stays in the low one is lost.
+// Folds two words, the high one not 0, into one word with its top bit set. The number is shifted left by the leading zeros of the high word;
+// the bits still in the low word are dropped.
 pub fn fold(w: Wide) -> Folded
     requires { ⌜ 0 < w .hi ⌝ }
     ensures { λ r. ⌜ (r .sig ≡ stuck (value w) (64 - leadingZeros 64 (w .hi))) × (r .down ≡ 64 - leadingZeros 64 (w .hi)) ⌝ }
@@ -35,7 +35,7 @@ pub fn fold(w: Wide) -> Folded
     }
 }
 
-// The exponent of what is left of a number that lost its last k bits.
+// The exponent of a number after its last k bits were dropped.
 pub fn add_to_exponent(exp: i32, k: u32) -> i32
     requires { ⌜ (mag exp ≤ 2 ^ 20) × (k ≤ 2 ^ 21) ⌝ }
     ensures { λ r. ⌜ r ≡ exp +ℤ pos k ⌝ }

@@ -1,3 +1,3 @@
-// The rounding of a number of two words: folded into one with its sticky mark, and rounded once.
+// The rounding of a two-word number, folded into one word with a sticky mark and rounded once.
 pub mod fold;
 pub mod sticky;

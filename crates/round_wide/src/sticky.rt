@@ -1,4 +1,4 @@
-// The sticky mark: what is left of a number that lost its last bits, with its own last bit set where anything was lost.
+// Shifts that keep a sticky mark: the last bit is set where a nonzero bit was dropped.
 ghost use mathlib.Core.Path.{_≡_};
 ghost use mathlib.Core.Bool.{cond};
 ghost use Prim.Native.Nat.{_+_, _*_, _/_};
@@ -8,14 +8,14 @@ use word_bits::shr_lost;
 use word_wide::Wide;
 use word_wide::shift::shr;
 
-// A word with its last bit set, where something was lost.
+// A word with its last bit set where a nonzero bit was lost.
 pub fn set_sticky(word: u64, lost: bool) -> u64
     ensures { λ r. ⌜ r ≡ cond lost (word / 2 * 2 + 1) word ⌝ }
 {
     if lost { word / 2 * 2 + 1 } else { word }
 }
 
-// v without its last k bits, for every k.
+// v without its last k bits, for every k, with a sticky mark.
 pub fn shr_sticky(v: u64, k: u32) -> u64
     ensures { λ r. ⌜ r ≡ stuck v k ⌝ }
 {
@@ -23,7 +23,7 @@ pub fn shr_sticky(v: u64, k: u32) -> u64
     set_sticky(kept.word, kept.lost)
 }
 
-// The same of two words: the mark goes into the low one.
+// The same for two words. The mark is in the low one.
 pub fn shr_sticky_wide(v: Wide, k: u32) -> Wide
     ensures { λ r. ⌜ value r ≡ stuck (value v) k ⌝ }
 {

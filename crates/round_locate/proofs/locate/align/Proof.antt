@@ -1,4 +1,4 @@
--- The four ways out are the four cases of where a cut stands (cuts: Places), and a format has four fields or more (fields: Widths). Assumes nothing.
+-- The four branches are the four cases of an alignment (round_laws: Alignments), and a format has at least four exponent fields (fmt_fields: Widths). Assumes nothing.
 use Prim.Native.Nat.{_+_, _-_}
 use native.Mathlib.Omega.{arith}
 use borrow.Author.Needs.{needs}

@@ -1,4 +1,4 @@
--- What the filled word gives is the neighbour and the location (cuts: Places), and a zero is its own (cuts: Stretched); all of it fits (fields: Widths). Assumes nothing.
+-- The normalised word gives neighbour and location (round_laws: Alignments), a zero is its own (round_laws: Stretched), and all of it fits (fmt_fields: Widths). Assumes nothing.
 use Prim.Native.Nat.{_+_, _*_, _/_, _^_, _<_}
 use mathlib.Core.Path.{sym, ap₂, _∙_, subst}
 use native.Mathlib.Omega.{arith}
@@ -19,7 +19,7 @@ known c =
     let s = c .before .before in
     filled _ _ _ _ (omega arith) (omega arith) (s .pre .1) (c .normalise .ensures .0) (simp (toZ-ofZ, s .fits .exp) at (c .normalise .ensures .1))
 
--- what is kept and the exponent field together stay in the word
+-- the kept bits and the exponent field together stay in the word
 room : (c : tie.After-align) → let s = c .before .before .before in let r = c .align .result in r .up * 2 ^ s .args .frac + r .sig / 2 ^ r .k < 2 ^ 63
 room c = let i = c .align .ensures in field-room (c .before .before .before .pre .0) (c .align .result .up) _ (i .fields) (i .kept)
 

@@ -1,4 +1,4 @@
--- Moved up by its leading zeros the significand fills its word, and no bit of it is lost (algebra: Leading). Assumes nothing.
+-- Shifted left by its leading zeros, the significand fills its word and loses no bit (algebra: Leading). Assumes nothing.
 use native.Mathlib.Omega.{arith}
 use native.Mathlib.Nat.{mod-eq-of-lt}
 use lib.Count.{leadingZeros}

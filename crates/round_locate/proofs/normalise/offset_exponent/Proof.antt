@@ -1,4 +1,4 @@
--- No step wraps, and the last is not below zero: the exponent is within 2^20 and the lift is 2^21 (algebra: Integers). Assumes nothing.
+-- No step wraps, and the result is not negative: the exponent is within 2^20 and the offset is 2^21 (algebra: Integers). Assumes nothing.
 use mathlib.Core.Path.{_≡_}
 use native.Mathlib.Omega.{arith}
 use borrow.Author.Needs.{needs}

@@ -1,4 +1,4 @@
--- What is kept and the location of what goes, by halves of what the last bit kept counts (cuts: Halves). Assumes nothing.
+-- The kept bits and the location, in halves of the last kept bit (round_laws: Halves). Assumes nothing.
 use mathlib.Core.Path.{ap, _∙_}
 use Prim.Native.Nat.{_+_, _-_, _*_, _/_, _%_}
 use native.Mathlib.Omega.{arith}

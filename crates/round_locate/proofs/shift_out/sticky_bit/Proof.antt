@@ -1,4 +1,4 @@
--- The two branches are those of the definition, by the same test on 0. Assumes nothing.
+-- The two branches are the definition's, by the same test. Assumes nothing.
 use borrow.Author.Tests.{eq-eqb, ne-eqb}
 use Rattle.round_locate.proofs.shift_out.sticky_bit.Statement.{statement}
 use Rattle.round_locate.proofs.shift_out.sticky_bit.Tie as tie

@@ -1,4 +1,4 @@
--- Each branch is the definition's, by the same test, and a number below 2^63 has room for one more in its word. Assumes nothing.
+-- Each branch is the definition's, by the same test, and a number below 2^63 can be incremented in its word. Assumes nothing.
 use native.Mathlib.Omega.{arith}
 use borrow.Author.Needs.{needs}
 use borrow.Author.Tests.{lt-ltb, le-ltb}

@@ -1,4 +1,4 @@
--- The choice and the sign stay in the word, since what is below infinity does (Rounds). Assumes nothing.
+-- The choice and the sign stay in the word, since the lower neighbour is below infinity (Rounds). Assumes nothing.
 use mathlib.Core.Path.{ap, _∙_}
 use native.Mathlib.Omega.{arith}
 use Rattle.ieee.specs.Pattern.{signed}

@@ -1,4 +1,4 @@
--- The cut, the choice and the sign make the answer and stay in the word (Rounds); a location is 3 at most (cuts: Choices). Assumes nothing.
+-- The location, the choice and the sign give the answer and stay in the word (Rounds); a location is at most 3 (round_laws: Choices). Assumes nothing.
 use mathlib.Core.Path.{_≡_}
 use native.Mathlib.Omega.{arith}
 use mir.Facts.{toZ-ofZ}

@@ -1,4 +1,4 @@
--- The step of every format that fits, at 32 bits (fields: Widths); narrowing keeps the answer, which is a pattern (ieee: Attributes). Assumes nothing.
+-- The rounding step at 32 bits (fmt_fields: Widths); narrowing keeps the answer, which is a pattern (ieee: Attributes). Assumes nothing.
 use native.Mathlib.Omega.{arith}
 use mir.Facts.{toZ-ofZ}
 use Rattle.ieee.specs.Format.{b32}

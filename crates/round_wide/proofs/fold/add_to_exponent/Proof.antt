@@ -1,4 +1,4 @@
--- The sum of an exponent and a count of bits cannot wrap, so that it is the integers' own (algebra: Integers). Assumes nothing.
+-- The sum of an exponent and a count of bits cannot wrap, so it is the integers' own (algebra: Integers). Assumes nothing.
 use Prim.Native.Nat.{_+_, _^_}
 use mathlib.Core.Path.{_≡_}
 use native.Mathlib.Omega.{arith}

@@ -1,4 +1,4 @@
--- Moved up by its leading zeros the high word has room for what passes the low one, and what stays there is what is lost (Folds). Assumes nothing.
+-- Shifted left by its leading zeros, the high word has room for the carry of the low one, and the rest of the low word is lost (Folds). Assumes nothing.
 use Prim.Native.Nat.{_+_, _*_, _%_, _^_}
 use mathlib.Core.Path.{refl, ap, _∙_}
 use native.Mathlib.Omega.{arith}

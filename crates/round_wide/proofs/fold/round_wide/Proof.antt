@@ -1,4 +1,4 @@
--- The folded word rounds as the two words do, at an exponent that stays in reach (Folds). Assumes nothing.
+-- The folded word rounds as the two words do, at an exponent within reach (Folds). Assumes nothing.
 use Prim.Native.Nat.{ℕ, _-_}
 use mathlib.Core.Path.{_≡_, sym, ap, ap₂, _∙_}
 use native.Mathlib.Omega.{arith}

@@ -1,4 +1,4 @@
--- Each way is the definition's, by the same test. Assumes nothing.
+-- Each branch is the definition's, by the same test. Assumes nothing.
 use borrow.Author.Needs.{needs}
 use Rattle.round_wide.proofs.sticky.set_sticky.Statement.{statement}
 use Rattle.round_wide.proofs.sticky.set_sticky.Tie as tie

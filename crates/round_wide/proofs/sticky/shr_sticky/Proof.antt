@@ -1,4 +1,4 @@
--- The quotient and the mark of what left it tell the number (Told). Assumes nothing.
+-- The quotient and the mark of the dropped bits make up the number (Told). Assumes nothing.
 use mathlib.Core.Path.{_∙_}
 use borrow.Author.Needs.{needs}
 use Rattle.round_wide.proofs.Told.{stuck-told}

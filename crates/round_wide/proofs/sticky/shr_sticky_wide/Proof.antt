@@ -1,4 +1,4 @@
--- The quotient and the mark of what left it tell the number, and the lower word takes the mark (Told). Assumes nothing.
+-- The quotient and the mark of the dropped bits make up the number, and the lower word takes the mark (Told). Assumes nothing.
 use Prim.Native.Nat.{_^_}
 use borrow.Author.Needs.{needs}
 use Rattle.word_wide.specs.Value.{value}
