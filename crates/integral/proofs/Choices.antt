@@ -1,4 +1,4 @@
--- What is chosen by the point of a pattern. Assumes nothing.
+-- Choices by the point of a pattern. Assumes nothing.
 use Prim.Native.Nat.{ℕ, suc, _+_, _-_, _*_, _/_, _%_, _^_, _≤_, _<_}
 use mathlib.Core.Path.{_≡_, refl, sym, ap, _∙_}
 use native.Mathlib.Nat.{mod-eq-of-lt}
@@ -28,7 +28,7 @@ module _ (f : Format) (x a b c : ℕ) where
   unfolding byPoint
   at-whole h = rw (le-ltb (field f x) (bias f) (omega arith)) (rw (le-ltb (field f x) (bias f + f .frac) h))
 
--- by the three cases
+-- the three cases
 pub by-cases : (f : Format) (x : ℕ) {G : Type 0} → (field f x < bias f → G) → (bias f ≤ field f x → field f x < bias f + f .frac → G) → (bias f + f .frac ≤ field f x → G) → G
 by-cases f x a b c = order (bias f) (field f x) (λ l. order (bias f + f .frac) (field f x) c (b l)) a
 
@@ -40,7 +40,7 @@ pub not-past : (f : Format) (x : ℕ) → magnitude f x ≤ inf f → oneNan f x
 unfolding oneNan
 not-past f x h = rw (le-ltb (inf f) (magnitude f x) h)
 
--- ---- by words
+-- ---- in words
 module _ {p e : ℕ} (w : Fits p e) where
   bias-small : bias (format p e) < 2 ^ 16
   bias-small = omega (arith, pow-mono {i = e - 1} {j = 16} (omega (arith, w .small)))
@@ -49,11 +49,11 @@ module _ {p e : ℕ} (w : Fits p e) where
   pub exponent-at : (x : ℕ) → bias (format p e) ≤ field (format p e) x → field (format p e) x ≡ bias (format p e) + exponentOf (format p e) x
   exponent-at x l = omega (arith, bias-small, field-in-word w x)
 
-  -- the point stands in the fraction exactly where its exponent is less than that has bits
+  -- the point stands within the fraction exactly where the exponent is below its number of bits
   pub exponent-part : (x : ℕ) → exponentOf (format p e) x < p → field (format p e) x ≡ bias (format p e) + exponentOf (format p e) x
   exponent-part x l = omega (arith, bias-small, field-in-word w x, w .word)
 
-  -- so that the choice of masks is a mask
+  -- so the choice of masks is a mask
   pub tail-is : (x : ℕ) → Tail (format p e) x (tailOf (format p e) x)
   tail-is x =
       let f = format p e in

@@ -9,7 +9,7 @@ use Rattle.algebra.proofs.Quotients.{div-mod, div-is}
 use Rattle.algebra.proofs.Powers.{pow-diff}
 use Rattle.integral.specs.Point.{behindOf, Mask}
 
--- p bits less s of them
+-- p bits shifted right by s
 shifted : (p s : ℕ) → s ≤ p → (2 ^ p - 1) / 2 ^ s ≡ 2 ^ (p - s) - 1
 shifted p s l =
     let e = pow-diff {a = p} {b = s} l in
@@ -25,14 +25,14 @@ behind-part p n w l =
     let e : n % 64 ≡ n = omega arith in
     ap (λ s. suc ((2 ^ p - 1) / 2 ^ s)) e ∙ omega (arith, shifted p n (omega arith), pow-pos (p - n))
 
--- and whatever n is, they are a mask
+-- for every n it is a mask
 pub behind-mask : (p n : ℕ) → Mask (behindOf p n)
 behind-mask p n =
     order (n % 64) p
     (λ h. (p - n % 64, omega (arith, shifted p (n % 64) h, pow-pos (p - n % 64))))
     (λ h. (0, omega (arith, shifted-out p (n % 64) (omega arith))))
 
--- what stands under a mask is a remainder
+-- the bits under a mask are a remainder
 pub under-is : (v b : ℕ) → Mask b → bitAnd v b ≡ v % suc b
 under-is v b (k, e) =
     let d : b ≡ 2 ^ k - 1 = omega arith in

@@ -1,4 +1,4 @@
--- What the code computes is trunc, floor and their status, over the format. Assumes nothing.
+-- The code computes trunc, floor and their status, over the format. Assumes nothing.
 use Prim.Native.Nat.{ℕ, suc, _+_, _-_, _*_, _/_, _%_, _^_, _≤_, _<_}
 use mathlib.Core.Path.{_≡_, refl, sym, ap, _∙_}
 use mathlib.Core.Bool.{true, cond}
@@ -29,7 +29,7 @@ use Rattle.integral.proofs.WholeParts.{wholeIn-at, stays, units-one, be
 
 -- ---- trunc
 module _ (f : Format) (g : Fair f) (x b : ℕ) (p : Pattern f x) (t : Tail f x b) where
-  -- a number that has bits behind the point is far from infinity, and no NaN
+  -- a number with bits behind the point is far from infinity, and not a NaN
   one-number : field f x < bias f + f .frac → oneNan f x ≡ x
   one-number h = not-past f x (omega (arith, far f g (field f x) h, magnitude-fields f x, fraction-small f x))
 
@@ -52,7 +52,7 @@ module _ (f : Format) (g : Fair f) (x b : ℕ) (p : Pattern f x) (t : Tail f x b
       let z : b ≡ 0 = omega (arith, t .mask .1, ap (λ k. 2 ^ k) (t .whole h)) in
       ap (λ d. oneNan f x / suc d * suc d) z ∙ omega arith ∙ sym (stays f g toward-zero x p h))
 
-  -- ---- the status: what stands behind the point is what trunc takes away
+  -- ---- the status: the bits behind the point are what trunc takes away
   trunc-leaves : magnitude f x ≤ inf f → truncOf f x + x % suc b ≡ x
   trunc-leaves i = omega (arith, trunc-by-tail, ap (λ y. y / suc b * suc b) (not-past f x i), div-mod x (suc b) (omega arith))
 
@@ -73,7 +73,7 @@ module _ (f : Format) (g : Fair f) (x b : ℕ) (p : Pattern f x) (t : Tail f x b
       let l : magnitude f x < inf f = omega (arith, far f g (field f x) h, magnitude-fields f x, fraction-small f x) in
       trunc-status-rows f g .changed x (units f (magnitude f x)) (kind-finite f x l) .1 (λ e. z (omega (arith, trunc-leaves (omega arith), e))))
 
--- where the point stands in the fraction, b masks the k bits behind it
+-- where the point stands within the fraction, b masks the k bits behind it
 record Part (f : Format) (x b : ℕ) : Type 0 where
   k : ℕ
   mask : suc b ≡ 2 ^ k
@@ -89,7 +89,7 @@ part-of {p} {e} w x l h =
 pub one-below-infinity : (f : Format) → Fair f → bias f * 2 ^ f .frac < inf f
 one-below-infinity f g = omega (arith, far f g (bias f) (omega (arith, g .frac-pos)), pow-pos (f .frac))
 
--- ---- floor: above zero as trunc, and below zero the bits behind the point are filled before the cut
+-- ---- floor: of a positive number trunc; of a negative one the mask is added before the cut
 module _ (f : Format) (g : Fair f) (x : ℕ) (p : Pattern f x) where
   minus-magnitude : top f ≤ x → magnitude f x + top f ≡ x
   minus-magnitude l = omega (arith, mod-is x (top f) 1 (x - top f) (omega arith) (omega arith))
@@ -111,7 +111,7 @@ module _ (f : Format) (g : Fair f) (x : ℕ) (p : Pattern f x) where
       wholeIn-at f g toward-negative x (bias f * 2 ^ f .frac) (omega arith) b (units-one f g ∙ omega (arith, times (2 ^ low f) v))
       ∙ ap (λ t. signed f t (bias f * 2 ^ f .frac)) s
 
-  -- -0 stays
+  -- -0 is its own floor
   minus-zero : x ≡ top f → floorOf f x ≡ x
   unfolding floorOf
   minus-zero z =
@@ -128,7 +128,7 @@ module _ (f : Format) (g : Fair f) (x : ℕ) (p : Pattern f x) where
       (λ i. sym (shorter-all f g toward-negative x p (ap (wayOf toward-negative) (lt-leb (top f) x i)) h)))
       (λ l. ap (λ t. cond t (top f + bias f * 2 ^ f .frac) (x - magnitude f x)) (lt-ltb (top f) x l) ∙ sym (minus-one l h))
 
-  -- a point in the fraction
+  -- a point within the fraction
   floor-plus : (b : ℕ) → x < top f → Part f x b → bias f ≤ field f x → x / suc b * suc b ≡ floorOf f x
   unfolding floorOf
   floor-plus b l q h =
@@ -160,7 +160,7 @@ module _ (f : Format) (g : Fair f) (x : ℕ) (p : Pattern f x) where
 pattern-room : {p e : ℕ} → Fits p e → 2 * top (format p e) ≤ 2 ^ 64
 pattern-room {p} {e} w = omega (arith, pow-mono {i = p + e} {j = 63} (w .word))
 
--- -1 has a sign, and is below infinity
+-- -1 has a sign, and its magnitude is below infinity
 pub minus-one-fits : {p e : ℕ} → Fits p e → top (format p e) + bias (format p e) * 2 ^ p < 2 ^ 64
 minus-one-fits {p} {e} w = omega (arith, one-below-infinity (format p e) (w .fair), inf-below-top (format p e), pattern-room w)
 

@@ -1,4 +1,4 @@
--- A number sent to a whole number of ones, by where its point stands, over the format and the attribute. Assumes nothing.
+-- A number rounded to a whole number, by where its point stands, over the format and the attribute. Assumes nothing.
 use Prim.Native.Nat.{ℕ, zero, suc, _+_, _-_, _*_, _/_, _^_, _≤_, _<_}
 use mathlib.Core.Path.{_≡_, sym, ap, _∙_}
 use mathlib.Core.Bool.{Bool, true, false, cond}
@@ -25,7 +25,7 @@ module _ (f : Format) (g : Fair f) where
   two-le : 2 ≤ 2 ^ (f .expo - 1)
   two-le = pow-mono {i = 1} {j = f .expo - 1} (omega (arith, g .expo-two))
 
-  -- the answer is the magnitude that has the units
+  -- the answer is the magnitude with those units
   pub wholeIn-at : (a : Attribute) (x n : ℕ) → magnitude f x < inf f → n < inf f →
       units f n ≡ whole (wayOf a (minus f x)) (units f (magnitude f x)) (2 ^ low f) * 2 ^ low f → wholeIn f a x ≡ signed f (minus f x) n
   wholeIn-at a x n l h e =
@@ -33,7 +33,7 @@ module _ (f : Format) (g : Fair f) where
       ∙ ap (λ u. signed f (minus f x) (exactly f u)) (sym e)
       ∙ ap (signed f (minus f x)) (fixed-whole f even n (omega arith))
 
-  -- ---- what has no bit behind the point stays, whatever the attribute, but for a NaN
+  -- ---- a number without bits behind the point is unchanged, under every attribute; a NaN becomes canonical
   fields-multiple : (q t : ℕ) → bias f + f .frac ≤ q → (k : ℕ) × (fields (2 ^ f .frac) q t ≡ k * 2 ^ low f)
   fields-multiple zero t h = absurd (omega (arith, two-le))
   fields-multiple (suc e) t h =
@@ -56,7 +56,7 @@ module _ (f : Format) (g : Fair f) where
       (λ i. infinity-stays f a x (kind-infinite f x (both-ways (magnitude f x) (inf f) i (omega arith))) ∙ sym (not-past f x i))
       (λ i. nan-canonical f a x (kind-nan f x i) ∙ sym (past-infinity f x i)))
 
-  -- ---- units by the significand: the exponent field less one, and from 2 ^ frac to twice that
+  -- ---- units by the significand: the exponent field less one, and a significand from 2 ^ frac to twice that
   units-normal : (c n : ℕ) → 2 ^ f .frac ≤ n → n ≤ 2 * 2 ^ f .frac → units f (c * 2 ^ f .frac + n) ≡ n * 2 ^ c
   units-normal c n l u =
       order (suc n) (2 * 2 ^ f .frac)
@@ -78,19 +78,19 @@ module _ (f : Format) (g : Fair f) where
   pub below-one : (m : ℕ) → m < bias f * 2 ^ f .frac → units f m < 2 ^ low f
   below-one m h = omega (arith, units-one, units-lt f h)
 
-  -- a number that has bits behind the point is far from infinity
+  -- a number with bits behind the point is far from infinity
   pub far : (q : ℕ) → q < bias f + f .frac → suc (suc q) * 2 ^ f .frac ≤ inf f
   far q h =
       let d = pow-diff {a = f .expo} {b = 1} (omega (arith, g .expo-two)) in
       let b : suc (suc q) ≤ 2 ^ f .expo - 1 = omega (arith, g .frac-fits) in
       times-le (2 ^ f .frac) b
 
-  -- ---- a part of the fraction behind the point: b is added before the cut, as the way asks
+  -- ---- a point within the fraction: the way adds b before the cut
   sign-multiple : (s : Bool) (k : ℕ) → k ≤ f .frac → (d : ℕ) × (cond s (top f) 0 ≡ d * 2 ^ k)
   sign-multiple false k l = (0, omega arith)
   sign-multiple true k l = (2 ^ (f .frac + f .expo - k), sym (pow-diff {a = f .frac + f .expo} {b = k} (omega arith)))
 
-  -- to divide by d the way w is to add a and then to cut, whatever factor the two numbers share
+  -- to divide by d in the way w is to add a and then to cut, for every common factor
   abbrev Adds : Way → ℕ → ℕ → Type 0
   Adds w d a = (n t : ℕ) → 0 < t → whole w (n * t) (d * t) ≡ (n + a) / d
 

@@ -1,4 +1,4 @@
--- Where the point stands in a pattern, and what is chosen by it. Assumes nothing.
+-- Where the point stands in a pattern, and choices by it. Assumes nothing.
 use Prim.Native.Nat.{ℕ, suc, _+_, _-_, _/_, _%_, _^_, _≤_, _<_}
 use mathlib.Core.Path.{_≡_}
 use mathlib.Core.Bool.{cond}
@@ -6,7 +6,7 @@ use lib.Dec.{ltb}
 use Rattle.ieee.specs.Format.{Format, top, bias, inf, canonical}
 use Rattle.ieee.specs.Pattern.{magnitude, field}
 
--- the exponent in a word: so many bits of the fraction stand before the point; below 1 it wraps
+-- the exponent in a word: how many bits of the fraction stand before the point; below 1 it wraps
 abbrev pub exponentOf : Format → ℕ → ℕ
 exponentOf f x = (field f x + (2 ^ 64 - bias f)) % 2 ^ 64
 
@@ -14,23 +14,23 @@ exponentOf f x = (field f x + (2 ^ 64 - bias f)) % 2 ^ 64
 abbrev pub behindOf : ℕ → ℕ → ℕ
 behindOf p n = (2 ^ p - 1) / 2 ^ (n % 64)
 
--- one of three: for a number below 1; where the point stands in the fraction; and from 2 ^ frac on, for infinities and for NaNs
+-- one of three: for a number below 1; for a point within the fraction; and from 2 ^ frac on, for infinities and for NaNs
 unfoldable pub byPoint : Format → ℕ → ℕ → ℕ → ℕ → ℕ
 byPoint f x below part whole = cond (ltb (field f x) (bias f)) below (cond (ltb (field f x) (bias f + f .frac)) part whole)
 
--- the bits behind the point, all set: below 1 all but the sign, and of a whole number none
+-- the bits behind the point, all set: below 1 all but the sign, of a whole number none
 abbrev pub tailOf : Format → ℕ → ℕ
 tailOf f x = byPoint f x (top f - 1) (behindOf (f .frac) (exponentOf f x)) 0
 
--- x, but the canonical NaN for every NaN
+-- x, or the canonical NaN for every NaN
 unfoldable pub oneNan : Format → ℕ → ℕ
 oneNan f x = cond (ltb (inf f) (magnitude f x)) (canonical f) x
 
--- the last bits of a word, so many, all set
+-- some of the last bits of a word, all set
 abbrev pub Mask : ℕ → Type 0
 Mask b = (k : ℕ) × (suc b ≡ 2 ^ k)
 
--- what a mask of the bits behind the point of x is
+-- b masks the bits behind the point of x
 pub record Tail (f : Format) (x b : ℕ) : Type 0 where
   pub mask : Mask b
   pub below : field f x < bias f → mask .0 ≡ f .frac + f .expo

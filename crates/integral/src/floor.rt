@@ -18,7 +18,7 @@ use fmt_fields::env::FpResult64;
 use fmt_fields::is_negative;
 use word_bits::pow;
 
-// Between -1 and 1: -1 for what is below -0, and else a zero.
+// Between -1 and 1: -1 below -0, otherwise a zero.
 fn floor_below_one(frac: u32, expo: u32, x: u64) -> u64
     requires { ⌜ Fits frac expo ⌝ }
     ensures { λ r. ⌜ r ≡ belowOne (format frac expo) x ⌝ }
@@ -32,7 +32,7 @@ fn floor_below_one(frac: u32, expo: u32, x: u64) -> u64
     zero
 }
 
-// Below zero the bits under the mask go up by all ones, so that a cut then goes away from zero.
+// Where x is negative, adds the mask, so that cutting the bits under it rounds away from zero.
 fn add_mask_if_negative(frac: u32, expo: u32, x: u64, mask: u64) -> u64
     requires { ⌜ Fits frac expo ⌝ }
     ensures { λ r. ⌜ r ≡ filled (format frac expo) x mask ⌝ }

@@ -1,4 +1,4 @@
-// Where the point stands in a pattern, and what is chosen by it: what trunc and floor rest on. Nothing here needs a jump.
+// Where the point stands in a pattern, and choices by it, for trunc and floor. Nothing here needs a jump.
 ghost use mathlib.Core.Path.{_≡_};
 ghost use Prim.Native.Nat.{suc, _*_, _/_, _%_, _-_, _≤_, _<_, _^_};
 ghost use Rattle.ieee.specs.Pattern.{magnitude};
@@ -18,7 +18,7 @@ pub fn bias(expo: u32) -> u64
     pow(expo - 1) - 1
 }
 
-// The exponent: so many bits of the fraction stand before the point. Below 1 it wraps, and is far more than there are.
+// The exponent: how many bits of the fraction stand before the point. Below 1 it wraps to a number far greater than that.
 pub fn exponent_of(frac: u32, expo: u32, x: u64) -> u64
     requires { ⌜ Fits frac expo ⌝ }
     ensures { λ r. ⌜ r ≡ exponentOf (format frac expo) x ⌝ }
@@ -26,7 +26,7 @@ pub fn exponent_of(frac: u32, expo: u32, x: u64) -> u64
     std::num::wrapping_sub_u64(exponent_field(frac, expo, x), bias(expo))
 }
 
-// The bits behind the point, all set, where n stand before it. What comes of an n that has wrapped is asked for by nobody.
+// The bits behind the point, all set, where n stand before it. The value for an n that has wrapped is unused.
 pub fn fraction_mask(frac: u32, n: u64) -> u64
     requires { ⌜ frac < 64 ⌝ }
     ensures { λ r. ⌜ r ≡ behindOf frac n ⌝ }
@@ -42,7 +42,7 @@ pub fn bits_under(v: u64, mask: u64) -> u64
     v & mask
 }
 
-// And what is left without them.
+// v without the bits under a mask.
 pub fn clear_under(v: u64, mask: u64) -> u64
     requires { ⌜ Mask mask ⌝ }
     ensures { λ r. ⌜ r ≡ v / suc mask * suc mask ⌝ }
@@ -50,7 +50,7 @@ pub fn clear_under(v: u64, mask: u64) -> u64
     v - bits_under(v, mask)
 }
 
-// One of three answers, of which all are at hand: a number below 1, a point in the fraction, and the rest.
+// One of three answers, all computed beforehand: for a number below 1, for a point within the fraction, and for the rest.
 pub fn choose_by_point(
     frac: u32,
     expo: u32,
@@ -72,7 +72,7 @@ pub fn choose_by_point(
     whole
 }
 
-// The bits behind the point, all set: of a number below 1 all but the sign, and none of a whole number, an infinity or a NaN.
+// The bits behind the point, all set: of a number below 1 all but the sign; of a whole number, an infinity or a NaN none.
 pub fn tail_mask(frac: u32, expo: u32, x: u64) -> u64
     requires { ⌜ Fits frac expo ⌝ }
     ensures { λ r. ⌜ r ≡ tailOf (format frac expo) x ⌝ }
@@ -82,7 +82,7 @@ pub fn tail_mask(frac: u32, expo: u32, x: u64) -> u64
     choose_by_point(frac, expo, x, n, all, fraction_mask(frac, n), 0)
 }
 
-// The zero that has the sign of x.
+// The zero with the sign of x.
 pub fn signed_zero(frac: u32, expo: u32, x: u64) -> u64
     requires { ⌜ Fits frac expo ⌝ }
     ensures { λ r. ⌜ r ≡ x - magnitude (format frac expo) x ⌝ }
@@ -90,7 +90,7 @@ pub fn signed_zero(frac: u32, expo: u32, x: u64) -> u64
     x - magnitude_of(frac, expo, x)
 }
 
-// x, but the canonical NaN for every NaN: they are past infinity once the sign is shifted out.
+// x, or the canonical NaN for every NaN. A NaN exceeds infinity once the sign is shifted out.
 pub fn canonicalise(frac: u32, expo: u32, x: u64) -> u64
     requires { ⌜ Fits frac expo ⌝ }
     ensures { λ r. ⌜ r ≡ oneNan (format frac expo) x ⌝ }

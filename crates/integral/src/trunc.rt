@@ -11,7 +11,7 @@ use crate::status::status;
 use fmt_fields::env::FpResult32;
 use fmt_fields::env::FpResult64;
 
-// The bits behind the point are cut off.
+// Cuts off the bits behind the point.
 fn trunc_pattern(frac: u32, expo: u32, x: u64) -> u64
     requires { ⌜ Fits frac expo × Pattern (format frac expo) x ⌝ }
     ensures { λ r. ⌜ (r ≡ truncOf (format frac expo) x) × Pattern (format frac expo) r ⌝ }

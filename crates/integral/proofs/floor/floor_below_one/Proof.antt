@@ -1,4 +1,4 @@
--- The two cases are the definition's, and -1 fits in a word (whole: Method). Assumes nothing.
+-- The two cases are the definition's, and -1 fits in a word (Method). Assumes nothing.
 use Prim.Native.Nat.{_+_, _*_, _-_, _^_}
 use mathlib.Core.Path.{_≡_, sym, ap, _∙_}
 use mathlib.Core.Bool.{cond}

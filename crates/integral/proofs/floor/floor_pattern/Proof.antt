@@ -1,4 +1,4 @@
--- The choice by the point is floor (whole: Method). Assumes nothing.
+-- The choice by the point is floor (Method). Assumes nothing.
 use Prim.Native.Nat.{suc, _*_, _/_}
 use mathlib.Core.Path.{_≡_, sym, ap, _∙_, subst}
 use borrow.Author.Needs.{needs}
@@ -22,7 +22,7 @@ fraction-mask-requires c κs = search needs
 add-mask-if-negative-requires : tie.Need-add-mask-if-negative-requires
 add-mask-if-negative-requires c κs = search needs
 
--- the mask, as the definition has it
+-- the mask is the definition's
 mask-is : (c : tie.After-fraction-mask) → let s = c .before .before .args in c .fraction-mask .result ≡ behindOf (s .frac) (exponentOf (format (s .frac) (s .expo)) (s .x))
 mask-is c = c .fraction-mask .ensures ∙ ap (behindOf (c .before .before .args .frac)) (c .before .exponent-of .ensures)
 

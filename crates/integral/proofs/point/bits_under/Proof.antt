@@ -1,4 +1,4 @@
--- What stands under a mask is a remainder (Masks). Assumes nothing.
+-- The bits under a mask are a remainder (Masks). Assumes nothing.
 use Rattle.integral.proofs.Masks.{under-is}
 use Rattle.integral.proofs.point.bits_under.Statement.{statement}
 use Rattle.integral.proofs.point.bits_under.Tie as tie

@@ -1,4 +1,4 @@
--- A NaN's magnitude is past infinity's, in whatever units (Choices). Assumes nothing.
+-- A NaN's magnitude exceeds infinity's, also when both are shifted (Choices). Assumes nothing.
 use mathlib.Core.Path.{sym, _∙_}
 use borrow.Author.Needs.{needs}
 use Rattle.integral.proofs.Choices.{past-is-nan, rest-stays}

@@ -1,4 +1,4 @@
--- The exponent and its field tell the three apart (Choices). Assumes nothing.
+-- The exponent and its field distinguish the three cases (Choices). Assumes nothing.
 use mathlib.Core.Path.{sym}
 use native.Mathlib.Omega.{arith}
 use borrow.Author.Needs.{needs}

@@ -1,4 +1,4 @@
--- The three are the definition's. Assumes nothing.
+-- The three cases are the definition's. Assumes nothing.
 use Prim.Native.Nat.{_+_, _-_}
 use mathlib.Core.Path.{ap, _∙_}
 use native.Mathlib.Omega.{arith}

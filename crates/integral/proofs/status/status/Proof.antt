@@ -1,4 +1,4 @@
--- What stands behind the point is what trunc takes away (Method), and floor changes the same numbers (ieee: WholeStatuses). Assumes nothing.
+-- The bits behind the point are what trunc takes away (Method), and floor changes the same numbers (ieee: WholeStatuses). Assumes nothing.
 use Prim.Native.Nat.{ℕ}
 use mathlib.Core.Path.{_≡_, sym, _∙_, subst}
 use borrow.Author.Needs.{needs}
@@ -22,7 +22,7 @@ module _ (s : tie.Start) where
 tail-mask-requires : tie.Need-tail-mask-requires
 tail-mask-requires c κs = search needs
 
--- the mask, as the definition has it
+-- the mask is the definition's
 told : (c : tie.After-tail-mask) → Tail (f (c .before)) (c .before .args .x) (c .tail-mask .result)
 told c = subst (Tail (f (c .before)) (c .before .args .x)) (sym (c .tail-mask .ensures)) (tail-is (c .before .pre .0) (c .before .args .x))
 

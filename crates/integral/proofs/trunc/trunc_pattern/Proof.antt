@@ -1,4 +1,4 @@
--- To cut at the point is trunc (whole: Method). Assumes nothing.
+-- Cutting at the point is trunc (Method). Assumes nothing.
 use Prim.Native.Nat.{suc, _*_, _/_}
 use mathlib.Core.Path.{_≡_, sym, ap, _∙_, subst}
 use borrow.Author.Needs.{needs}
@@ -18,7 +18,7 @@ canonicalise-requires c κs = search needs
 tail-mask-requires : tie.Need-tail-mask-requires
 tail-mask-requires c κs = search needs
 
--- the mask, as the definition has it
+-- the mask is the definition's
 told : (c : tie.After-tail-mask) → let s = c .before .before in Tail (format (s .args .frac) (s .args .expo)) (s .args .x) (c .tail-mask .result)
 told c = let s = c .before .before in subst (Tail (format (s .args .frac) (s .args .expo)) (s .args .x)) (sym (c .tail-mask .ensures)) (tail-is (s .pre .0) (s .args .x))
 
