@@ -17,7 +17,7 @@ use fmt_fields::is_negative;
 use round_step::round::round;
 use word_bits::pow;
 
-// A normal x times 2^n: the exponent field moves, or bits of the significand fall below the smallest unit, or the value is past the largest number.
+// A normal x times 2^n: the exponent field moves, or bits of the significand drop below the smallest unit, or the value overflows.
 pub fn scale_normal(frac: u32, expo: u32, x: u64, n: i32) -> u64
     requires { ⌜ Fits frac expo × Pattern (format frac expo) x × Normal (format frac expo) x ⌝ }
     ensures { λ r. ⌜ r ≡ scalbnOf (format frac expo) x n ⌝ }
@@ -33,7 +33,7 @@ pub fn scale_normal(frac: u32, expo: u32, x: u64, n: i32) -> u64
     overflow(frac, expo, x)
 }
 
-// A subnormal x times 2^n, or a zero: the significand is normalised in the rounding step.
+// A subnormal x, or a zero, times 2^n. The rounding step normalises the significand.
 pub fn scale_subnormal(frac: u32, expo: u32, x: u64, n: i32) -> u64
     requires { ⌜ Fits frac expo × (field (format frac expo) x ≡ 0) ⌝ }
     ensures { λ r. ⌜ r ≡ scalbnOf (format frac expo) x n ⌝ }

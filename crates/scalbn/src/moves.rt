@@ -1,4 +1,4 @@
-// What becomes of a pattern that is scaled: it stays, its field moves, its last bits fall, or it passes the largest number.
+// The cases of a scaled pattern: unchanged, field moved, bits below the smallest unit, overflow.
 ghost use mathlib.Core.Path.{_≡_};
 ghost use mathlib.Core.Bool.{cond};
 ghost use Prim.Native.Nat.{_+_, _-_, _*_, _/_, _%_, _≤_, _<_, _^_};
@@ -18,7 +18,7 @@ use round_locate::shift_out::shift_out;
 use round_step::round::choose_and_sign;
 use word_bits::pow;
 
-// An infinity as it is, and for a NaN the canonical one.
+// An infinity unchanged; for a NaN the canonical one.
 pub fn scale_special(frac: u32, expo: u32, x: u64) -> u64
     requires { ⌜ Fits frac expo ⌝ }
     ensures { λ r. ⌜ r ≡ cond (eqb (fraction (format frac expo) x) 0) x (canonical (format frac expo)) ⌝ }
@@ -29,7 +29,7 @@ pub fn scale_special(frac: u32, expo: u32, x: u64) -> u64
     nan(frac, expo)
 }
 
-// x with another exponent field: from one normal number to another the fraction stays as it is.
+// x with another exponent field. From one normal number to another the fraction is unchanged.
 pub fn with_field(frac: u32, expo: u32, x: u64, to: u64) -> u64
     requires { ⌜ Fits frac expo × Pattern (format frac expo) x × (to < 2 ^ expo) ⌝ }
     ensures { λ r. ⌜ r ≡ x - field (format frac expo) x * 2 ^ frac + to * 2 ^ frac ⌝ }
@@ -38,7 +38,7 @@ pub fn with_field(frac: u32, expo: u32, x: u64, to: u64) -> u64
     x - exponent_field(frac, expo, x) * unit + to * unit
 }
 
-// A value with the sign of x past the largest number: that one is the lower neighbour, and the location is past the middle.
+// The rounding of a value with the sign of x past the largest number: that one is the lower neighbour, and the location is past the middle.
 pub fn overflow(frac: u32, expo: u32, x: u64) -> u64
     requires { ⌜ Fits frac expo ⌝ }
     ensures { λ r. ⌜ r ≡ signed (format frac expo) (minus (format frac expo) x) (chosen even (inf (format frac expo) - 1) 3) ⌝ }
@@ -47,7 +47,7 @@ pub fn overflow(frac: u32, expo: u32, x: u64) -> u64
     choose_and_sign(frac, expo, sign, infinity(frac, expo) - 1, 3)
 }
 
-// A normal x whose significand is to lose its last k bits: they go, and the rounding step settles it.
+// Rounds a normal x after shifting its significand right by k bits.
 pub fn round_below_unit(frac: u32, expo: u32, x: u64, k: u32) -> u64
     requires { ⌜ Fits frac expo × (1 ≤ k) × (k ≤ 64) ⌝ }
     ensures { λ r. ⌜ r ≡ signed (format frac expo) (minus (format frac expo) x) (chosen even (fullOf (format frac expo) x / 2 ^ k) (part (fullOf (format frac expo) x % 2 ^ k) (2 ^ k))) ⌝ }

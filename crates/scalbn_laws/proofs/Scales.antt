@@ -1,4 +1,4 @@
--- scalbn by the exponent field and the fraction of x: the rows, the way from one normal number to another, and the rounding step's. Assumes nothing.
+-- scalbn by the exponent field and the fraction of x: the rows, from one normal number to another, and through the rounding step. Assumes nothing.
 use Prim.Native.Nat.{ℕ, suc, _+_, _-_, _*_, _/_, _%_, _^_, _≤_, _<_, min}
 use mathlib.Core.Path.{_≡_, refl, sym, ap, ap₂, _∙_, subst}
 use mathlib.Core.Bool.{Bool, true, false, cond}
@@ -59,7 +59,7 @@ module _ (f : Format) (x : ℕ) (n : ℤ) where
 pub scalbn-unclamped : (f : Format) → Fair f → (x : ℕ) (n : ℤ) → field f x < 2 ^ f .expo - 1 → scalbnOf f x n ≡ answer f ties-to-even (minus f x) (scaled (minus f x) (units f (magnitude f x)) n)
 scalbn-unclamped f g x n h = scalbn-finite f x n h ∙ clamp-alike f g ties-to-even (minus f x) (units f (magnitude f x)) n (units-lt f (field-finite f x h))
 
--- what the format holds comes back
+-- a value that the format holds is its own answer
 scaled-held : (f : Format) (a : Attribute) (s : Bool) (u m : ℕ) (n : ℤ) → m < inf f → u * 2 ^ up n ≡ units f m * 2 ^ dn n → answer f a s (scaled s u n) ≡ signed f s m
 scaled-held f a s u m n l e =
     let i : up n + 0 ≡ up n = omega arith in
@@ -68,7 +68,7 @@ scaled-held f a s u m n l e =
     ∙ answer-held f a s s m 0 l (sign-own s (units f m * 2 ^ 0) 0)
 
 module _ (f : Format) (x : ℕ) (n : ℤ) where
-  -- the field moves, and the fraction stays
+  -- the field moves, and the fraction is unchanged
   pub moved-held : (t : ℕ) → 0 < field f x → 0 < t → t < 2 ^ f .expo - 1 → pos t ≡ n +ℤ pos (field f x) → Pattern f x
       → answer f ties-to-even (minus f x) (scaled (minus f x) (units f (magnitude f x)) n) ≡ x - field f x * 2 ^ f .frac + t * 2 ^ f .frac
   moved-held t p q h e r =
@@ -93,12 +93,12 @@ scalbn-subnormal f g x n h =
     let few = pow-mono {i = 2} {j = f .expo} (g .expo-two) in
     sym (scalbn-finite f x n (omega arith) ∙ ap (λ u. answer f ties-to-even (minus f x) (scaled (minus f x) u (clamp (reach f) n))) (units-subnormal f x h))
 
--- ---- normal numbers: the field moves, or the value is too great, or it falls below the least normal number
+-- ---- normal numbers: the field moves, or the value overflows, or it drops below the least normal number
 module _ (f : Format) (g : Fair f) (x : ℕ) (n : ℤ) (i : Normal f x) where
   pub scalbn-moved : (t : ℕ) → Pattern f x → movedTo f x n ≡ pos t → 0 < t → t < 2 ^ f .expo - 1 → x - field f x * 2 ^ f .frac + t * 2 ^ f .frac ≡ scalbnOf f x n
   scalbn-moved t p e q h = sym (scalbn-unclamped f g x n (i .most) ∙ moved-held f x n t (i .least) q h (sym e) p)
 
-  -- the answer by the cut of the significand
+  -- the answer by the location of the significand
   location-answer : (m p : ℕ) → Lies f (stretched (fullOf f x) (n +ℤ pos (field f x - 1))) m p → scalbnOf f x n ≡ signed f (minus f x) (chosen even m p)
   location-answer m p (b, q) =
       let s = minus f x in
@@ -123,7 +123,7 @@ module _ (f : Format) (g : Fair f) (x : ℕ) (n : ℤ) (i : Normal f x) where
       let c = locate-over f g 0 (fullOf f x) (t - 1) 0 (t - 1) low (omega arith) (omega arith) in
       sym (location-answer (inf f - 1) 3 (subst (λ y. Lies f (stretched (fullOf f x) y) (inf f - 1) 3) (sym z) c))
 
-  -- k bits fall below the smallest unit
+  -- k bits drop below the smallest unit
   low-lies : (k : ℕ) → Lies f (ratio (fullOf f x) (2 ^ k)) (fullOf f x / 2 ^ k) (part (fullOf f x % 2 ^ k) (2 ^ k))
   low-lies k =
       let one : fullOf f x * 2 ^ 0 ≡ fullOf f x = omega arith in
@@ -157,7 +157,7 @@ module _ (f : Format) (g : Fair f) (x : ℕ) (n : ℤ) (i : Normal f x) where
 
 -- ---- what fits in a word
 module _ {p e : ℕ} (w : Fits p e) where
-  -- what is left of a significand that loses its last bits
+  -- the rest of a significand that loses its last bits
   pub fallen-room : (x k : ℕ) → 1 ≤ k → fullOf (format p e) x / 2 ^ k < inf (format p e)
   fallen-room x k l =
       let S = fullOf (format p e) x in

@@ -1,4 +1,4 @@
--- A normal number, by its exponent field, its significand, and where its field moves. Assumes nothing.
+-- A normal number by its exponent field and significand, and its field moved. Assumes nothing.
 use Prim.Native.Nat.{ℕ, _+_, _-_, _^_, _<_}
 use lib.IntN.{ℤ, pos, _+ℤ_}
 use Rattle.ieee.specs.Format.{Format}
@@ -8,7 +8,7 @@ pub record Normal (f : Format) (x : ℕ) : Type 0 where
   pub least : 0 < field f x
   pub most : field f x < 2 ^ f .expo - 1
 
--- the fraction, under the bit that is not written
+-- the fraction with its implicit bit
 abbrev pub fullOf : Format → ℕ → ℕ
 fullOf f x = 2 ^ f .frac + fraction f x
 

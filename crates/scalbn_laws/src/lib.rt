@@ -1,1 +1,1 @@
-// scalbn by the fields of a pattern: the definitions and the lemmas.
+// Laws of scalbn by the fields of a pattern: definitions and lemmas, no function.

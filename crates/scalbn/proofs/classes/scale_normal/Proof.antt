@@ -1,4 +1,4 @@
--- The field ends below the normal ones, among them or past them (exponents: Exponents), and each is a case of the answer (scales: Scales). Assumes nothing.
+-- The moved field is below those of normal numbers, among them or past them (fmt_exponents: Exponents), and each is a case of the answer (scalbn_laws: Scales). Assumes nothing.
 use mathlib.Core.Path.{_≡_, sym, ap, _∙_}
 use native.Mathlib.Omega.{arith}
 use lib.IntN.{pos, _+ℤ_}

@@ -1,4 +1,4 @@
--- The fraction is the value in smallest units, so that the rounding step gives the answer, with n in reach (scales: Scales). Assumes nothing.
+-- The fraction is the value in smallest units, so the rounding step gives the answer, with n clamped (scalbn_laws: Scales). Assumes nothing.
 use Prim.Native.Nat.{_+_, _^_}
 use mathlib.Core.Path.{_≡_, ap, ap₂, _∙_}
 use native.Mathlib.Omega.{arith}
@@ -18,7 +18,7 @@ use Rattle.scalbn.proofs.classes.scale_subnormal.Tie as tie
 abbrev fmt : tie.Start → Format
 fmt s = format (s .args .frac) (s .args .expo)
 
--- n in reach
+-- n clamped
 near-is : (c : tie.After-clamp-exponent) → let s = c .before .before in c .clamp-exponent .result ≡ clamp (2 ^ s .args .expo + s .args .frac) (s .args .n)
 near-is c =
     let s = c .before .before in

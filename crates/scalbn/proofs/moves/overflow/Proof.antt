@@ -1,4 +1,4 @@
--- The largest number is one below infinity, and is settled at the location past the middle. Assumes nothing.
+-- The largest number is one below infinity, and the location is past the middle. Assumes nothing.
 use Prim.Native.Nat.{_-_}
 use mathlib.Core.Path.{_≡_, ap, ap₂, _∙_}
 use native.Mathlib.Omega.{arith}

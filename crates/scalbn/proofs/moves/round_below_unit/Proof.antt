@@ -1,4 +1,4 @@
--- The significand has room for the cut and the choice (fields: Decoded; cuts: Parts), and what is left is below the sign bit (scales: Scales). Assumes nothing.
+-- The significand has room for the shift and the choice (fmt_fields: Decoded; round_laws: Parts), and the result is below the sign bit (scalbn_laws: Scales). Assumes nothing.
 use Prim.Native.Nat.{_+_, _/_, _%_, _^_}
 use mathlib.Core.Path.{_≡_, ap, ap₂, _∙_}
 use native.Mathlib.Omega.{arith}

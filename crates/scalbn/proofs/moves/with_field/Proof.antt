@@ -1,4 +1,4 @@
--- What the old field counts is part of x, and what the new one makes of it fits in the word (scales: Scales). Assumes nothing.
+-- The old field is part of x, and the pattern with the new one fits in the word (scalbn_laws: Scales). Assumes nothing.
 use Prim.Native.Nat.{ℕ, _+_, _-_, _*_, _^_}
 use mathlib.Core.Path.{_≡_, ap₂}
 use native.Mathlib.Omega.{arith}

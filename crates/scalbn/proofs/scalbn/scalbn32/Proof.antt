@@ -1,4 +1,4 @@
--- The field tells which row of the answer applies; every answer is a pattern of 32 bits, so that narrowing keeps it (scales: Scales). Assumes nothing.
+-- The field decides which row of the answer applies; every answer is a pattern of 32 bits, so narrowing keeps it (scalbn_laws: Scales). Assumes nothing.
 use Prim.Native.Nat.{_^_, _<_}
 use mathlib.Core.Path.{_≡_, sym, _∙_}
 use native.Mathlib.Omega.{arith}
@@ -13,7 +13,7 @@ use Rattle.scalbn_laws.proofs.Scales.{scalbn-special, scalbn-pattern}
 use Rattle.scalbn.proofs.scalbn.scalbn32.Statement.{statement}
 use Rattle.scalbn.proofs.scalbn.scalbn32.Tie as tie
 
--- the answer fits in the word, so that narrowing it loses nothing
+-- the answer fits in the word, so narrowing loses nothing
 narrow : (s : tie.Start) → scalbnOf b32 (s .args .x) (s .args .n) < 2 ^ 32
 narrow s = omega (arith, scalbn-pattern b32 fair32 (s .args .x) (s .args .n) (omega arith))
 

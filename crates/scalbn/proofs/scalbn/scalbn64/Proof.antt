@@ -1,4 +1,4 @@
--- The field tells which row of the answer applies: 0, the last (scales: Scales), or a normal number's between them (ieee: Fields). Assumes nothing.
+-- The field decides which row of the answer applies: 0, the last (scalbn_laws: Scales), or a normal number's between them (ieee: Fields). Assumes nothing.
 use mathlib.Core.Path.{sym, _∙_}
 use native.Mathlib.Omega.{arith}
 use mir.Facts.{toZ-ofZ}
