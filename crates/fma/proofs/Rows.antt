@@ -1,4 +1,4 @@
--- The rows of fma, by magnitudes. Assumes nothing.
+-- The rows of fma, by magnitude. Assumes nothing.
 use Prim.Native.Nat.{ℕ, zero, suc, _*_, _≤_, _<_}
 use mathlib.Core.Path.{_≡_, refl, sym, ap, _∙_}
 use mathlib.Core.Logic.{_⊎_, inl, inr, ⊎-elim}
@@ -18,7 +18,7 @@ use Rattle.fmt_fields.specs.Width.{format, Fits}
 use Rattle.fmt_decode.proofs.Asides.{set-aside}
 use Rattle.fma.specs.Special.{Special}
 
--- ---- kinds, by magnitudes
+-- ---- kinds, by magnitude
 zero-kind : (f : Format) (x : ℕ) → 0 < inf f → magnitude f x ≡ 0 → kind f x ≡ finite 0
 zero-kind f x l e = kind-finite f x (omega arith) ∙ ap finite (ap (units f) e ∙ units-zero f)
 
@@ -77,7 +77,7 @@ module _ (f : Format) (x y z : ℕ) where
   pub opposite : InfiniteProduct f x y → magnitude f z ≡ inf f → against f x y z ≡ true → canonical f ≡ fmaOf f x y z
   opposite i e u = sym (rows .opposite-infinities i (kind-infinite f z e) u) ∙ of-in
 
-  -- the product decides where z is finite or of its sign
+  -- the product decides where z is finite or has its sign
   pub decides : InfiniteProduct f x y → magnitude f z ≤ inf f → (magnitude f z ≡ inf f → against f x y z ≡ false) → signed f (productSign f x y) (inf f) ≡ fmaOf f x y z
   decides i l u =
       order (inf f) (magnitude f z)
@@ -105,7 +105,7 @@ module _ (f : Format) (x y z : ℕ) where
     pub unlike-zeros : magnitude f z ≡ 0 → against f x y z ≡ true → 0 ≡ fmaOf f x y z
     unlike-zeros e a = sym (rows .unlike-zeros u v (kind-finite f x l) (kind-finite f y h) no-product (zero-kind f z (omega arith) e) a (λ d. d)) ∙ of-in
 
-    -- z itself: it is no zero, or a zero of the product's sign
+    -- z itself: it is not a zero, or is a zero of the product's sign
     same-zeros : magnitude f z ≡ 0 → against f x y z ≡ false → z ≡ fmaOf f x y z
     same-zeros e a =
         let s : productSign f x y ≡ minus f z = like-is (productSign f x y) (minus f z) a in
@@ -123,7 +123,7 @@ module _ (f : Format) (x y z : ℕ) where
         (λ q. let e : magnitude f z ≡ 0 = omega arith in same-zeros e (a e))
         (λ q. let (w, e) = some-kind f z q k in sym (rows .zero-product u v w b (kind-finite f x l) (kind-finite f y h) no-product e) ∙ of-in)
 
-  -- what is special and neither infinite nor a NaN has a zero product
+  -- operands that are special, with neither an infinity nor a NaN, have a zero product
   pub then-zero : Special f x y z → magnitude f x < inf f → magnitude f y < inf f → magnitude f z < inf f → (magnitude f x ≡ 0) ⊎ (magnitude f y ≡ 0)
   then-zero s l h k =
       ⊎-elim (λ e. set-aside f x e (λ q. inl q) (λ q. absurd (omega arith)))

@@ -1,4 +1,4 @@
--- Operands of fma of which no sum is rounded. Assumes nothing.
+-- Operands of fma that have a row of their own. Assumes nothing.
 use Prim.Native.Nat.{ℕ, _≤_}
 use mathlib.Core.Path.{_≡_}
 use mathlib.Core.Logic.{_⊎_}

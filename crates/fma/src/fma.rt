@@ -9,7 +9,7 @@ use fma_sum::sum64::fma_numbers64;
 use fma_sum::sum64::product_alone64;
 use fmt_decode::norm::is_zero_nan_inf;
 
-// Numbers that are not zero have a sum to round. Beside a zero z it is the product alone; all else has a row of its own.
+// Nonzero numbers take the sum. A zero z leaves only the product; everything else has a row of its own.
 pub fn fma64(x: u64, y: u64, z: u64) -> u64
     ensures { λ r. ⌜ r ≡ fmaOf b64 x y z ⌝ }
 {

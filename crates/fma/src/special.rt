@@ -1,4 +1,4 @@
-// fma by its rows: the answers where an operand is an infinity or a NaN, or the product is a zero.
+// The rows of fma: the answers where an operand is an infinity or a NaN, or the product is a zero.
 ghost use mathlib.Core.Path.{_≡_};
 ghost use mathlib.Core.Logic.{_⊎_};
 ghost use Prim.Native.Nat.{_≤_, _<_};
@@ -13,7 +13,7 @@ use fmt_fields::pattern::magnitude_of;
 use fmt_fields::pattern::nan;
 use fmt_fields::with_sign;
 
-// Where x or y is infinite: a zero has no product with it, and an infinite z of the other sign no sum.
+// x or y is infinite: its product with a zero is invalid, and so is its sum with an infinite z of the other sign.
 pub fn of_infinite_product(frac: u32, expo: u32, x: u64, y: u64, z: u64) -> u64
     requires { ⌜ Fits frac expo × (magnitude (format frac expo) x ≤ inf (format frac expo)) × (magnitude (format frac expo) y ≤ inf (format frac expo)) × (magnitude (format frac expo) z ≤ inf (format frac expo)) × ((magnitude (format frac expo) x ≡ inf (format frac expo)) ⊎ (magnitude (format frac expo) y ≡ inf (format frac expo))) ⌝ }
     ensures { λ r. ⌜ r ≡ fmaOf (format frac expo) x y z ⌝ }
@@ -36,7 +36,7 @@ pub fn of_infinite_product(frac: u32, expo: u32, x: u64, y: u64, z: u64) -> u64
     nan(frac, expo)
 }
 
-// A product that is a zero leaves z, and of two zeros of unlike signs +0.
+// A zero product leaves z; two zeros of unlike signs give +0.
 pub fn of_zero_product(frac: u32, expo: u32, x: u64, y: u64, z: u64) -> u64
     requires { ⌜ Fits frac expo × Pattern (format frac expo) z × (magnitude (format frac expo) x < inf (format frac expo)) × (magnitude (format frac expo) y < inf (format frac expo)) × (magnitude (format frac expo) z < inf (format frac expo)) × ((magnitude (format frac expo) x ≡ 0) ⊎ (magnitude (format frac expo) y ≡ 0)) ⌝ }
     ensures { λ r. ⌜ r ≡ fmaOf (format frac expo) x y z ⌝ }
@@ -51,7 +51,7 @@ pub fn of_zero_product(frac: u32, expo: u32, x: u64, y: u64, z: u64) -> u64
     0
 }
 
-// A NaN anywhere, an infinite product, an infinite z, and what is left is a product that is a zero.
+// A NaN anywhere, an infinite product, an infinite z; otherwise the product is a zero.
 pub fn fma_special(frac: u32, expo: u32, x: u64, y: u64, z: u64) -> u64
     requires { ⌜ Fits frac expo × Pattern (format frac expo) z × Special (format frac expo) x y z ⌝ }
     ensures { λ r. ⌜ r ≡ fmaOf (format frac expo) x y z ⌝ }

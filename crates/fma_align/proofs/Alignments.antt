@@ -1,4 +1,4 @@
--- A product and a third number at one exponent, by where the third stands: below the product, above it with room, or further up. Assumes nothing.
+-- A product and a third number aligned to one exponent, by where the third is: below the product, above it with room, or further up. Assumes nothing.
 use Prim.Native.Nat.{ℕ, zero, suc, _-_, _*_, _^_, min, _≤_, _<_}
 use mathlib.Core.Path.{_≡_, refl, sym, ap, _∙_}
 use mathlib.Core.Bool.{true, false}
@@ -11,7 +11,7 @@ use Rattle.round_wide.specs.Stuck.{stuck}
 use Rattle.round_wide.proofs.Stuck.{stuck-none}
 use Rattle.fma_laws.specs.Aligned.{productAt, thirdAt, downBy}
 
--- ---- the two sides of 0
+-- ---- the positive and the negative part
 pub sides-below : (d : ℤ) → ltZ d (pos 0) ≡ true → (0 ≡ above d) × (natAbs (pos 0 -ℤ d) ≡ above (negℤ d))
 sides-below (pos n) t = absurd (omega (arith, ltZ-true (pos n) (pos 0) t))
 sides-below (negsuc n) t = (refl, omega (arith, absZ (pos 0 -ℤ negsuc n), subZ (pos 0) (negsuc n)))
@@ -21,7 +21,7 @@ sides-above (pos zero) t = (refl, refl)
 sides-above (pos (suc n)) t = (refl, refl)
 sides-above (negsuc n) t = absurd (omega (arith, ltZ-false (negsuc n) (pos 0) t))
 
--- ---- what is found, x and y, k places above the product's own exponent, are the product p and the third number q, which stands d bits above p
+-- ---- x and y are the product p and the third number q, which is d bits above p, aligned k bits above the product's own exponent
 abbrev pub Aligns : ℕ → ℕ → ℕ → ℤ → ℕ → ℕ → ℕ → Type 0
 Aligns l p q d x y k = (x ≡ productAt l p d) × (y ≡ thirdAt l q d) × (k ≡ downBy l d)
 

@@ -1,4 +1,4 @@
--- The sum of two magnitudes with signs, by the signs and the order. Assumes nothing.
+-- The signed sum of two magnitudes, by the signs and the order. Assumes nothing.
 use Prim.Native.Nat.{ℕ, _+_, _-_, _≤_, _<_}
 use mathlib.Core.Path.{_≡_, refl, sym, ap, _∙_}
 use mathlib.Core.Bool.{Bool, true, false, not, cond, Bool·beq}
@@ -8,7 +8,7 @@ use lib.Dec.{ltb}
 use Rattle.ieee.specs.Pattern.{unlike}
 use Rattle.fma_laws.specs.Aligned.{joined, joinedSign}
 
--- what is found, r with the sign u, is the sum of a with the sign s and b with the sign t
+-- r with the sign u is the sum of a with the sign s and b with the sign t
 abbrev pub Joins : Bool → Bool → ℕ → ℕ → ℕ → Bool → Type 0
 Joins s t a b r u = (r ≡ joined (unlike s t) a b) × (u ≡ joinedSign s t a b)
 

@@ -1,4 +1,4 @@
-// A product p and a third number q brought to one exponent, where q stands d bits above p.
+// Aligns a product p and a third number q to one exponent, where q is d bits above p.
 ghost use mathlib.Core.Path.{_≡_};
 ghost use Prim.Native.Nat.{_≤_, _<_, _^_};
 ghost use lib.IntN.{negℤ};
@@ -10,7 +10,7 @@ use round_wide::sticky::shr_sticky;
 use round_wide::sticky::shr_sticky_wide;
 use word_wide::Wide;
 
-// How far a number is above 0, and how far below.
+// A signed number as its positive part and its negative part.
 pub struct Sides {
     pub above: u32,
     pub below: u32,
@@ -44,7 +44,7 @@ pub fn sides_of(d: i32) -> Sides
     }
 }
 
-// Two words have room for q, 64 bits up: then it is the high word.
+// Two words have room for q shifted left by 64 bits: it is then the high word.
 pub fn align64(p: Wide, q: u64, d: i32) -> Aligned64
     requires { ⌜ mag d ≤ 2 ^ 20 ⌝ }
     ensures { λ r. ⌜ (value (r .product) ≡ productAt 64 (value p) d) × (value (r .third) ≡ thirdAt 64 q d) × (r .down ≡ downBy 64 d) ⌝ }
@@ -77,7 +77,7 @@ pub fn align64(p: Wide, q: u64, d: i32) -> Aligned64
     }
 }
 
-// One word has room for q, 38 bits up.
+// One word has room for q shifted left by 38 bits.
 pub fn align32(p: u64, q: u64, d: i32) -> Aligned32
     requires { ⌜ (q < 2 ^ 26) × (mag d ≤ 2 ^ 20) ⌝ }
     ensures { λ r. ⌜ (r .product ≡ productAt 38 p d) × (r .third ≡ thirdAt 38 q d) × (r .down ≡ downBy 38 d) ⌝ }

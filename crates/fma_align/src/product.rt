@@ -1,4 +1,4 @@
-// The product of two numbers taken apart, twice of it, so that it is even; how far a third number stands above it; and where their sum stands.
+// The product of two unpacked numbers, doubled to be even; its distance from a third number; and the exponent of the sum.
 ghost use mathlib.Core.Path.{_≡_};
 ghost use Prim.Native.Nat.{_*_, _<_, _^_};
 ghost use lib.IntN.{pos, _+ℤ_, _-ℤ_};
@@ -9,14 +9,14 @@ use fmt_decode::norm::Norm;
 use word_wide::Wide;
 use word_wide::product::mul;
 
-// A product of two words, with its exponent and its sign.
+// A two-word product, with its exponent and its sign.
 pub struct Product64 {
     pub sig: Wide,
     pub exp: i32,
     pub neg: bool,
 }
 
-// A product of one word.
+// A one-word product, with its exponent and its sign.
 pub struct Product32 {
     pub sig: u64,
     pub exp: i32,
@@ -31,7 +31,7 @@ pub fn add_exponents(a: i32, b: i32) -> i32
     a + b
 }
 
-// How far the exponent a stands above b.
+// The exponent a less the exponent b.
 pub fn subtract_exponents(a: i32, b: i32) -> i32
     requires { ⌜ (mag a < 2 ^ 18) × (mag b < 2 ^ 18) ⌝ }
     ensures { λ r. ⌜ r ≡ a -ℤ b ⌝ }
@@ -39,7 +39,7 @@ pub fn subtract_exponents(a: i32, b: i32) -> i32
     a - b
 }
 
-// The exponent of a step of the sum, in smallest units, which are 2^-low: the product's, and what it went down; less one, since it is taken twice.
+// The exponent of a step of the sum, in smallest units of 2^-low: the product's plus the bits it was shifted right, less one for its factor of two.
 pub fn sum_exponent(exp: i32, low: u32, down: u32) -> i32
     requires { ⌜ (mag exp < 2 ^ 18) × (low < 2 ^ 18) × (down < 2 ^ 19) ⌝ }
     ensures { λ r. ⌜ r ≡ exp +ℤ pos low +ℤ pos down -ℤ pos 1 ⌝ }

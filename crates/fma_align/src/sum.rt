@@ -1,4 +1,4 @@
-// The sum of two magnitudes with signs, and its sign: of two words, and of one.
+// The signed sum of two magnitudes, of two words or of one.
 ghost use mathlib.Core.Path.{_≡_};
 ghost use Prim.Native.Nat.{_+_, _<_, _^_};
 ghost use lib.Dec.{eqb};
@@ -20,7 +20,7 @@ pub struct SignedSum32 {
     pub neg: bool,
 }
 
-// a with the sign s and b with the sign t. Of unlike signs the lesser is taken from the greater, whose sign stays.
+// a with the sign s plus b with the sign t. Of unlike signs, the smaller is subtracted from the larger, whose sign remains.
 pub fn add_signed64(a: Wide, b: Wide, s: bool, t: bool) -> SignedSum64
     requires { ⌜ value a + value b < 2 ^ 128 ⌝ }
     ensures { λ r. ⌜ (value (r .sum) ≡ joined (unlike s t) (value a) (value b)) × (r .neg ≡ joinedSign s t (value a) (value b)) ⌝ }
@@ -53,7 +53,7 @@ pub fn add_signed32(a: u64, b: u64, s: bool, t: bool) -> SignedSum32
     SignedSum32 { sum, neg: s }
 }
 
-// Whether nothing is left.
+// Whether w is 0.
 pub fn is_zero(w: Wide) -> bool
     ensures { λ r. ⌜ r ≡ eqb (value w) 0 ⌝ }
 {

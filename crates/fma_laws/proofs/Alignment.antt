@@ -18,14 +18,14 @@ pub data Level (P Q n a b : ℕ) : Type 0 where
   first-whole : P ≡ a * n → a % 2 ≡ 0 → Marks Q n b → Level P Q n a b
   second-whole : Q ≡ b * n → b % 2 ≡ 0 → Marks P n a → Level P Q n a b
 
--- q, n bits above A, goes up by l at most, and the step by the rest
+-- q, n bits above A, is shifted left by at most l, and the step by the rest
 third-up : (l q n A B : ℕ) → n + A ≡ B → q * 2 ^ B ≡ q * 2 ^ min n l * 2 ^ (A + (n - l))
 third-up l q n A B e = omega (arith, times q level)
   where
     level : 2 ^ B ≡ 2 ^ min n l * 2 ^ (A + (n - l))
     level = ap (λ k. 2 ^ k) (omega arith) ∙ pow-add 2 (min n l) (A + (n - l))
 
--- p stands at the exponent A and q at B, which is d above
+-- p has the exponent A and q the exponent B, which is d above
 pub aligned : (l p q A B : ℕ) (d : ℤ) → p % 2 ≡ 0 → q % 2 ≡ 0 → up d + A ≡ dn d + B
     → Level (p * 2 ^ A) (q * 2 ^ B) (2 ^ (A + downBy l d)) (productAt l p d) (thirdAt l q d)
 unfolding productAt thirdAt
@@ -45,7 +45,7 @@ aligned l p q A B (negsuc n) e h w =
     step : 2 ^ suc n * 2 ^ B ≡ 2 ^ (A + 0)
     step = sym (pow-add 2 (suc n) B) ∙ ap (λ k. 2 ^ k) (omega arith)
 
--- ---- the counts stand as the numbers do
+-- ---- the counts compare as the numbers do
 module _ {P Q n a b : ℕ} where
   pub level-le : Level P Q n a b → a ≤ b → P ≤ Q
   level-le (first-whole e h m) l = omega (arith, le-marked m a h l)
@@ -60,7 +60,7 @@ far-apart : (u : Bool) (a b h : ℕ) → (a + 4 * h ≤ b → 4 * h ≤ joined u
 far-apart false a b h = (λ l. omega arith, λ l. omega arith)
 far-apart true a b h = (λ l. omega arith, λ l. omega arith)
 
--- what the counts p of a product and q of a third number are, where h is 2 ^ frac
+-- the sizes of the counts p of a product and q of a third number, where h is 2 ^ frac
 pub record Sized (h p q : ℕ) : Type 0 where
   pub even-p : p % 2 ≡ 0
   pub even-q : q % 2 ≡ 0

@@ -1,4 +1,4 @@
--- Where the terms of a fused sum stand, in steps of 2 ^ -(2 frac + 1): the product at the exponent ax + ay, the third number at az + frac + low. Assumes nothing.
+-- The exponents of the terms of a fused sum, in steps of 2 ^ -(2 frac + 1): ax + ay for the product, az + frac + low for the third number. Assumes nothing.
 use Prim.Native.Nat.{ℕ, suc, _+_, _*_, _^_}
 use mathlib.Core.Path.{_≡_}
 use native.Mathlib.Nat.{two-pow-succ, mul-le-mul}

@@ -1,4 +1,4 @@
--- The answer to one value in two forms: over a finer power of two, and as an exact count of steps. Assumes nothing.
+-- The answer for one value in two forms: over a finer power of two, and as an exact count of steps. Assumes nothing.
 use Prim.Native.Nat.{ℕ, _+_, _*_, _^_, _<_}
 use mathlib.Core.Path.{_≡_, sym, ap, _∙_}
 use mathlib.Core.Bool.{Bool}
@@ -17,7 +17,7 @@ use Rattle.ieee.proofs.Exacts.{answer-of, sign-given}
 use Rattle.round_laws.proofs.Stretched.{same-ratio, ratio-stretched}
 use Rattle.round_step.proofs.Scaled.{answer-scaled}
 
--- both parts of a fraction times 2 ^ c
+-- numerator and denominator times 2 ^ c
 pub finer-answer : (f : Format) (g : Attribute) (z t : Bool) (v b c : ℕ) → 0 < v
     → answer f g z (dyadic (withSign t v) b) ≡ answer f g z (dyadic (withSign t (v * 2 ^ c)) (b + c))
 finer-answer f g z t v b c p =

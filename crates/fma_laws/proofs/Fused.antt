@@ -1,4 +1,4 @@
--- fma of numbers that are not zero is its count of steps, rounded once; and where the third number is zero, the product is. Assumes nothing.
+-- fma of nonzero numbers is its count of steps, rounded once; where the third number is zero, it is the product, rounded once. Assumes nothing.
 use Prim.Native.Nat.{ℕ, _+_, _*_, _^_, _≤_, _<_}
 use mathlib.Core.Path.{_≡_, sym, ap, _∙_}
 use mathlib.Core.Bool.{Bool, true, false}
@@ -66,11 +66,11 @@ module _ (f : Format) (x y z : ℕ) where
       .zero-sum (units f (magnitude f x)) (units f (magnitude f y)) (units f (magnitude f z)) (kind-finite f x p) (kind-finite f y q) (kind-finite f z r) l
       (numerator ∙ ap (withSign (totalSign f x y z)) e ∙ signed-zero (totalSign f x y z)) (λ d. d)
 
--- the product of numbers that are not zero is none
+-- the product of nonzero numbers is nonzero
 product-some : (f : Format) (x y : ℕ) → Ordinary f x → Ordinary f y → 0 < first f x y
 product-some f x y ox oy = omega (arith, mul-le-mul (units-lt f (ox .least)) (units-lt f (oy .least)))
 
--- ---- and its count of steps
+-- ---- its count of steps
 module _ (f : Format) (g : Fair f) (l x y z : ℕ) (ox : Ordinary f x) (oy : Ordinary f y) (oz : Ordinary f z) where
   fused-terms : (ax ay az : ℕ) → Normal f x ax → Normal f y ay → Normal f z az
       → Terms (2 ^ f .frac) (productSig f x y) (thirdSig f z) (ax + ay) (az + (f .frac + low f)) (first f x y) (second f z) (finer f) (aboveBy f x y z)
@@ -82,7 +82,7 @@ module _ (f : Format) (g : Fair f) (l x y z : ℕ) (ox : Ordinary f x) (oy : Ord
         above = above-is f x y z ax ay az nx ny nz;
       }
 
-  -- a zero sum of terms that are not zero is +0
+  -- a zero sum of nonzero terms is +0
   pub fused-none : fusedSteps f l x y z ≡ 0 → fmaOf f x y z ≡ 0
   fused-none e =
       let (ax, nx) = normal-is f g x (ox .least) in
@@ -90,7 +90,7 @@ module _ (f : Format) (g : Fair f) (l x y z : ℕ) (ox : Ordinary f x) (oy : Ord
       let (az, nz) = normal-is f g z (oz .least) in
       total-none f x y z (ox .most) (oy .most) (oz .most) (product-some f x y ox oy) (sum-none l (fused-terms ax ay az nx ny nz) (against f x y z) e)
 
-  -- and any other rounds as its count does
+  -- any other rounds as its count does
   pub fused-own : 2 ≤ f .frac → 2 + f .frac ≤ l → 0 < fusedSteps f l x y z
       → fmaOf f x y z ≡ answer f ties-to-even (fusedSign f l x y z) (scaled (fusedSign f l x y z) (fusedSteps f l x y z) (fusedExp f l x y z))
   fused-own two room some =
@@ -138,7 +138,7 @@ module _ (f : Format) (g : Fair f) (x y z : ℕ) (ox : Ordinary f x) (oy : Ordin
       (omega (arith, addZ (normExpOf f x +ℤ normExpOf f y) (pos (low f)), product-exp f x y ax ay nx ny))
       (product-counts f x y ax ay nx ny)
 
-  -- the same of twice the product
+  -- the same for twice the product
   pub product-twice : fmaOf f x y z
       ≡ answer f ties-to-even (unlike (minus f x) (minus f y)) (scaled (unlike (minus f x) (minus f y)) (productSig f x y) (normExpOf f x +ℤ normExpOf f y +ℤ pos (low f) +ℤ pos 0 -ℤ pos 1))
   product-twice =

@@ -1,4 +1,4 @@
--- The sum of numbers U and W with signs, where U is p times 2 ^ A, and W is q times 2 ^ B, in steps of 2 ^ -c: its count tells its sign, and how it rounds. Assumes nothing.
+-- The signed sum of U, which is p times 2 ^ A, and W, which is q times 2 ^ B, in steps of 2 ^ -c: its count gives its sign and its rounding. Assumes nothing.
 use Prim.Native.Nat.{ℕ, _+_, _*_, _^_, _≤_, _<_}
 use mathlib.Core.Path.{_≡_, sym, _∙_, subst}
 use mathlib.Core.Bool.{Bool}

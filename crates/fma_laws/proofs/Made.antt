@@ -1,4 +1,4 @@
--- What is made on the way to a fused sum, whatever words hold it: each number is the definition's where those that it is made of are. Assumes nothing.
+-- The intermediates of a fused sum, whatever words hold them: each is the definition's where those it is made of are. Assumes nothing.
 use Prim.Native.Nat.{ℕ, _+_, _-_, _^_, _≤_, _<_}
 use mathlib.Core.Path.{_≡_, sym, ap, ap₂, _∙_, subst}
 use mathlib.Core.Bool.{Bool}
@@ -18,7 +18,7 @@ use Rattle.fma_laws.proofs.Fused.{fused-none, fused-own}
 use Rattle.fma_laws.proofs.Room.{fused-exp-fits}
 
 module _ {p e : ℕ} (w : Fits p e) (l x y z : ℕ) where
-  -- the product and z at one exponent
+  -- the product and z aligned to one exponent
   pub record Levelled (a b down : ℕ) : Type 0 where
     pub product-is : a ≡ productSteps (format p e) l x y z
     pub third-is : b ≡ thirdSteps (format p e) l x y z

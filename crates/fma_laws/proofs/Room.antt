@@ -1,4 +1,4 @@
--- How large the counts and the exponents of a fused sum are: the sum has frac + 3 + l bits, which is 119 at 64 bits with l = 64, and 64 at 32 bits with l = 38. Assumes nothing.
+-- The sizes of the counts and the exponents of a fused sum: the sum has frac + 3 + l bits, which is 119 at 64 bits with l = 64, and 64 at 32 bits with l = 38. Assumes nothing.
 use Prim.Native.Nat.{ℕ, suc, _+_, _-_, _*_, _^_, _≤_, _<_, min}
 use mathlib.Core.Path.{_≡_, ap, _∙_}
 use native.Mathlib.Nat.{two-pow-succ, mul-le-mul}
@@ -48,7 +48,7 @@ module _ (f : Format) (g : Fair f) (x y : ℕ) (ox : Ordinary f x) (oy : Ordinar
   pub product-bits : productSig f x y < 2 ^ (f .frac + f .frac + 3)
   product-bits = omega (arith, product-between, pow-add 2 (f .frac + f .frac) 2, pow-add 2 (f .frac + f .frac) 3)
 
-  -- and no more where it is brought to the third number's exponent
+  -- and no more when it is aligned to the third number
   pub product-fits : (l : ℕ) (d : ℤ) → productAt l (productSig f x y) d < 2 ^ (f .frac + f .frac + 3)
   product-fits l d = omega (arith, product-le l (productSig f x y) d, product-bits)
 
@@ -79,7 +79,7 @@ module _ {p e : ℕ} (w : Fits p e) where
   pub norm-exp-mag : (v : ℕ) → Ordinary (format p e) v → mag (normExpOf (format p e) v) < 2 ^ 18
   norm-exp-mag v o = magZ (normExpOf (format p e) v) (2 ^ 18) (omega (arith, norm-exp-small v o)) (omega (arith, norm-exp-small v o))
 
--- the product's, from the point and in smallest units
+-- of the product, from the point and in smallest units
 module _ {p e : ℕ} (w : Fits p e) (x y : ℕ) (ox : Ordinary (format p e) x) (oy : Ordinary (format p e) y) where
   product-bounds : (up (normExpOf (format p e) x +ℤ normExpOf (format p e) y) < 2 ^ 17) × (dn (normExpOf (format p e) x +ℤ normExpOf (format p e) y) < 2 ^ 18)
   product-bounds =
@@ -99,7 +99,7 @@ module _ {p e : ℕ} (w : Fits p e) (x y : ℕ) (ox : Ordinary (format p e) x) (
       omega (arith, subZ (b +ℤ pos 0) (pos 1), addZ b (pos 0), addZ a (pos (low (format p e))), product-bounds, unbias-small w) in
       magZ r (2 ^ 20 - 64) (bounds .0) (bounds .1)
 
--- how far z stands above it, how far the product goes down, and the exponent of a step
+-- how far z is above it, how far the product is shifted right, and the exponent of a step
 module _ {p e : ℕ} (w : Fits p e) (x y z : ℕ) (ox : Ordinary (format p e) x) (oy : Ordinary (format p e) y) (oz : Ordinary (format p e) z) where
   above-bounds : (up (aboveBy (format p e) x y z) < 2 ^ 19) × (dn (aboveBy (format p e) x y z) < 2 ^ 18)
   above-bounds =

@@ -1,4 +1,4 @@
--- The sum of two numbers with signs, by their magnitudes, and its count of steps. Assumes nothing.
+-- The sum of two signed numbers, by their magnitudes, and its count of steps. Assumes nothing.
 use Prim.Native.Nat.{ℕ, _-_, _*_, _%_, _≤_, _<_}
 use mathlib.Core.Path.{_≡_, refl, sym, ap, _∙_, subst}
 use mathlib.Core.Bool.{Bool, true, false, cond}
@@ -15,14 +15,14 @@ use Rattle.fma_laws.specs.Aligned.{joined, joinedSign}
 use Rattle.fma_laws.proofs.Alignment.{Level, first-whole, second-whole, level-le, level-ge}
 
 -- ---- the exact sum
--- the sign, by which is the greater
+-- the sign, by which is greater
 pub sign-second : (s t : Bool) (a b : ℕ) → a < b → joinedSign s t a b ≡ t
 sign-second s t a b l = ap (λ c. cond c t s) (lt-ltb a b l)
 
 pub sign-first : (s t : Bool) (a b : ℕ) → b ≤ a → joinedSign s t a b ≡ s
 sign-first s t a b l = ap (λ c. cond c t s) (le-ltb a b l)
 
--- the greater of two of unlike signs decides, and of like signs either
+-- of unlike signs the greater decides, of like signs either
 sum-first : (s t : Bool) (a b : ℕ) → b ≤ a → withSign s a +ℤ withSign t b ≡ withSign s (joined (unlike s t) a b)
 sum-first false false a b l = plus-like false a b
 sum-first false true a b l = let e : a - b ≡ joined true a b = omega arith in plus-more false a b l ∙ ap (withSign false) e
@@ -71,7 +71,7 @@ joined-marks {a} {b} true (second-whole e h m) =
     (λ l. marks-as (omega (arith, e, level-ge (second-whole e h m) l)) (omega arith) (marks-over m b h l))
     (λ l. marks-as (omega (arith, e, level-le (second-whole e h m) (omega arith))) (omega arith) (marks-minus m b h (omega arith)))
 
--- a count is of something exactly where there is something
+-- a count is nonzero exactly where the number is
 pub marks-some : {v n s : ℕ} → Marks v n s → 0 < n → 0 < s → 0 < v
 marks-some {v} {n} {s} m p l = order 1 (s % 2) (λ q. omega (arith, m .more (omega arith), times-le n l)) (λ q. omega (arith, m .exact (omega arith), times-le n l))
 
@@ -89,7 +89,7 @@ unlike-sign {P} {Q} {n} {a} {b} s t v p l =
     (λ h. sign-first s t P Q (level-ge v h) ∙ sym (sign-first s t a b h))
     (λ h. sign-second s t P Q (omega (arith, level-le v (omega arith))) ∙ sym (sign-second s t a b h))
 
--- and its sign is the sum's
+-- its sign is the sum's
 pub joined-sign : {P Q n a b : ℕ} (s t : Bool) → Level P Q n a b → 0 < n → 0 < joined (unlike s t) a b → joinedSign s t P Q ≡ joinedSign s t a b
 joined-sign {P} {Q} {n} {a} {b} false false v p l = like-either false (ltb P Q) ∙ sym (like-either false (ltb a b))
 joined-sign {P} {Q} {n} {a} {b} true true v p l = like-either true (ltb P Q) ∙ sym (like-either true (ltb a b))

@@ -1,12 +1,12 @@
--- A product p and a third number q brought to one exponent, so that they can be added: q stands d bits above p. Assumes nothing.
+-- A product p and a third number q aligned to one exponent, where q is d bits above p. Assumes nothing.
 use Prim.Native.Nat.{ℕ, suc, _+_, _-_, _*_, _^_, min}
 use mathlib.Core.Bool.{Bool, true, false, cond}
 use lib.Dec.{ltb}
 use lib.IntN.{ℤ, pos, negsuc}
 use Rattle.round_wide.specs.Stuck.{stuck}
 
--- q goes up by d, but by l bits at most, which is the room that there is; from there on p goes down. Where q is below p, q goes down.
--- What goes down leaves a sticky mark.
+-- q is shifted left by d, but by at most l bits, the room for it; for the rest p is shifted right. Where q is below p, q is shifted right.
+-- A shift right leaves a sticky mark.
 unfoldable pub productAt : ℕ → ℕ → ℤ → ℕ
 unfolding stuck
 productAt l p (pos n) = stuck p (n - l)
@@ -17,16 +17,16 @@ unfolding stuck
 thirdAt l q (pos n) = q * 2 ^ min n l
 thirdAt l q (negsuc n) = stuck q (suc n)
 
--- how many bits p went down, which is where both now stand above p's own exponent
+-- how many bits p was shifted right: both now stand so far above p's own exponent
 abbrev pub downBy : ℕ → ℤ → ℕ
 downBy l (pos n) = n - l
 downBy l (negsuc n) = 0
 
--- the sum of two magnitudes, of unlike signs or not
+-- the magnitude of the sum of two magnitudes, of unlike signs or not
 abbrev pub joined : Bool → ℕ → ℕ → ℕ
 joined false a b = a + b
 joined true a b = (a - b) + (b - a)
 
--- and its sign, where s is the first one's: the other sign where the second is the greater
+-- its sign, where s is that of the first: the other sign where the second is greater
 abbrev pub joinedSign : Bool → Bool → ℕ → ℕ → Bool
 joinedSign s t a b = cond (ltb a b) t s

@@ -1,4 +1,4 @@
--- x times y plus z, of numbers that are not zero, as a count of steps, an exponent and a sign, where q has room to go up by l bits. Assumes nothing.
+-- x times y plus z, of nonzero numbers, as a count of steps, an exponent and a sign, where q has room to be shifted left by l bits. Assumes nothing.
 use Prim.Native.Nat.{ℕ, _*_}
 use mathlib.Core.Bool.{Bool}
 use lib.IntN.{ℤ, pos, _+ℤ_, _-ℤ_}
@@ -8,14 +8,14 @@ use Rattle.fmt_decode.specs.Significand.{sigOf}
 use Rattle.fmt_decode.specs.Norm.{normExpOf}
 use Rattle.fma_laws.specs.Aligned.{productAt, thirdAt, downBy, joined, joinedSign}
 
--- the significands: twice of each, since then the one that stays whole is an even count of steps, and an odd sum can only be a marked one
+-- the significands, doubled: the one that loses no bit is then an even count of steps, and only a marked sum can be odd
 abbrev pub productSig : Format → ℕ → ℕ → ℕ
 productSig f x y = 2 * (sigOf f x * sigOf f y)
 
 abbrev pub thirdSig : Format → ℕ → ℕ
 thirdSig f z = 2 * sigOf f z
 
--- how far z stands above the product
+-- how far z is above the product
 abbrev pub aboveBy : Format → ℕ → ℕ → ℕ → ℤ
 aboveBy f x y z = normExpOf f z -ℤ (normExpOf f x +ℤ normExpOf f y)
 
@@ -32,6 +32,6 @@ fusedSteps f l x y z = joined (unlike (unlike (minus f x) (minus f y)) (minus f 
 abbrev pub fusedSign : Format → ℕ → ℕ → ℕ → ℕ → Bool
 fusedSign f l x y z = joinedSign (unlike (minus f x) (minus f y)) (minus f z) (productSteps f l x y z) (thirdSteps f l x y z)
 
--- the exponent of a step, in smallest units, which are 2 ^ -low; less one, for the factor two
+-- the exponent of a step, in smallest units of 2 ^ -low; less one, for the factor two
 abbrev pub fusedExp : Format → ℕ → ℕ → ℕ → ℕ → ℤ
 fusedExp f l x y z = normExpOf f x +ℤ normExpOf f y +ℤ pos (low f) +ℤ pos (downBy l (aboveBy f x y z)) -ℤ pos 1

@@ -1,1 +1,1 @@
-// A product and a third number brought to one exponent, and the one rounding of their sum: the definitions and the lemmas.
+// Laws of the fused sum, aligned to one exponent and rounded once: definitions and lemmas, no function.

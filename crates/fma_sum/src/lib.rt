@@ -1,3 +1,3 @@
-// x times y plus z of numbers that are not zero, rounded once, at each width.
+// x times y plus z of nonzero numbers, rounded once, at each width.
 pub mod sum32;
 pub mod sum64;

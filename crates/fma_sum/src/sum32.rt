@@ -1,4 +1,4 @@
-// x times y plus z of numbers that are not zero, and x times y alone, rounded once, at 32 bits: one word has room for all of it.
+// x times y plus z of nonzero numbers, and x times y alone, rounded once, at 32 bits. One word holds every intermediate.
 ghost use mathlib.Core.Path.{_≡_};
 ghost use mathlib.Core.Bool.{false};
 ghost use Prim.Native.Nat.{_<_, _^_};
@@ -21,7 +21,7 @@ use round_step::round::round32;
 // The smallest unit is 2^-149.
 const LOW: u32 = 149;
 
-// The product of two numbers that are not zero, twice of it, with its exponent and its sign.
+// The product of two nonzero numbers, doubled, with its exponent and its sign.
 pub fn product_of(x: u64, y: u64) -> Product32
     requires { ⌜ (aside b32 x ≡ false) × (aside b32 y ≡ false) ⌝ }
     ensures { λ r. ⌜ (r .sig ≡ productSig b32 x y) × (r .exp ≡ normExpOf b32 x +ℤ normExpOf b32 y) × (r .neg ≡ unlike (minus b32 x) (minus b32 y)) × (mag (r .exp) < 2 ^ 18) ⌝ }

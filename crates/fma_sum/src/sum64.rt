@@ -1,4 +1,4 @@
-// x times y plus z of numbers that are not zero, and x times y alone, rounded once, at 64 bits.
+// x times y plus z of nonzero numbers, and x times y alone, rounded once, at 64 bits.
 ghost use mathlib.Core.Path.{_≡_};
 ghost use mathlib.Core.Bool.{false};
 ghost use Prim.Native.Nat.{_<_, _^_};
@@ -23,7 +23,7 @@ use round_wide::fold::round_wide;
 // The smallest unit is 2^-1074.
 const LOW: u32 = 1074;
 
-// The product of two numbers that are not zero, twice of it, with its exponent and its sign.
+// The product of two nonzero numbers, doubled, with its exponent and its sign.
 pub fn product_of(x: u64, y: u64) -> Product64
     requires { ⌜ (aside b64 x ≡ false) × (aside b64 y ≡ false) ⌝ }
     ensures { λ r. ⌜ (value (r .sig) ≡ productSig b64 x y) × (r .exp ≡ normExpOf b64 x +ℤ normExpOf b64 y) × (r .neg ≡ unlike (minus b64 x) (minus b64 y)) × (mag (r .exp) < 2 ^ 18) ⌝ }
@@ -31,8 +31,8 @@ pub fn product_of(x: u64, y: u64) -> Product64
     multiply64(norm_of(52, 11, x), norm_of(52, 11, y))
 }
 
-// The product and z at one exponent, with the sticky mark of what went; their sum; and the rounding step. Where nothing is left, the terms were of unlike
-// signs, and the answer is +0.
+// Aligns the product and z to one exponent with a sticky mark, adds them and rounds once. A zero sum has terms of unlike signs, so the answer
+// is +0.
 pub fn fma_numbers64(x: u64, y: u64, z: u64) -> u64
     requires { ⌜ (aside b64 x ≡ false) × (aside b64 y ≡ false) × (aside b64 z ≡ false) ⌝ }
     ensures { λ r. ⌜ r ≡ fmaOf b64 x y z ⌝ }
@@ -47,7 +47,7 @@ pub fn fma_numbers64(x: u64, y: u64, z: u64) -> u64
     round_wide(52, 11, s.neg, s.sum, sum_exponent(p.exp, LOW, a.down))
 }
 
-// Beside a zero z there is the product alone. One that rounds to zero keeps its sign.
+// With a zero z there is only the product. A product that rounds to zero keeps its sign.
 pub fn product_alone64(x: u64, y: u64, z: u64) -> u64
     requires { ⌜ (aside b64 x ≡ false) × (aside b64 y ≡ false) × (magnitude b64 z ≡ 0) ⌝ }
     ensures { λ r. ⌜ r ≡ fmaOf b64 x y z ⌝ }

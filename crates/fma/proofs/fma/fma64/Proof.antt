@@ -1,4 +1,4 @@
--- What is set aside has a row (rows: Rows), a zero z leaves the product, and all else is a sum of numbers that are not zero. Assumes nothing.
+-- Operands set aside have a row (Rows), a zero z leaves the product, and all others are a sum of nonzero numbers. Assumes nothing.
 use mathlib.Core.Path.{_≡_, sym, _∙_}
 use mathlib.Core.Logic.{inl, inr}
 use mathlib.Core.Bool.{false}
@@ -22,7 +22,7 @@ module _ (c : tie.Else2) where
   y-not : aside b64 (s .args .y) ≡ false
   y-not = sym (c .before .is-zero-nan-inf2 .ensures) ∙ c .if2 .left
 
--- nor is z a zero, where it is set aside
+-- z is set aside and is not a zero
 special-z : (c : tie.Then4) → let i = s (c .before .before .before) in Special b64 (i .args .x) (i .args .y) (i .args .z)
 special-z c =
     let n = c .before in

@@ -1,4 +1,4 @@
--- The rows one after the other: what is left after the NaNs and the infinities has a zero product (Rows). Assumes nothing.
+-- The rows in order: after the NaNs and the infinities the product is a zero (Rows). Assumes nothing.
 use Prim.Native.Nat.{_≤_, _<_}
 use mathlib.Core.Path.{_≡_, sym, _∙_}
 use mathlib.Core.Logic.{inl, inr}
@@ -63,7 +63,7 @@ of-infinite-product-requires-2 c κs =
     let o = c .before .before in
     (s (m o) .pre .0, x-most o, y-most o, z-most o, inr (sym (y-is (m o)) ∙ c .if5 .taken ∙ inf-is (m o)))
 
--- and neither factor is infinite
+-- neither factor is infinite
 module _ (c : tie.Else5) where
   abbrev o : tie.Else3
   o = c .before .before

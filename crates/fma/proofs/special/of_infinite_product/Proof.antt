@@ -1,4 +1,4 @@
--- The rows of an infinite factor (Rows); the two signs are alike or not by the definition's own test. Assumes nothing.
+-- The rows of an infinite factor (Rows); the test for unlike signs is the definition's. Assumes nothing.
 use Prim.Native.Nat.{_<_}
 use mathlib.Core.Path.{_≡_, sym, ap, ap₂, _∙_}
 use mathlib.Core.Bool.{not}

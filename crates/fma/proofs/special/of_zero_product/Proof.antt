@@ -1,4 +1,4 @@
--- The rows of a product that is a zero (Rows); the two signs are alike or not by the definition's own test. Assumes nothing.
+-- The rows of a zero product (Rows); the test for unlike signs is the definition's. Assumes nothing.
 use mathlib.Core.Path.{_≡_, sym, ap, _∙_}
 use mathlib.Core.Bool.{false, not}
 use native.Mathlib.Omega.{arith}

@@ -1,4 +1,4 @@
--- Each way is the definition's (Zeros), and one word has room for what goes up. Assumes nothing.
+-- Each branch is the definition's (Alignments), and one word has room for the shifted q. Assumes nothing.
 use mathlib.Core.Path.{_≡_}
 use native.Mathlib.Omega.{arith}
 use borrow.Author.Needs.{needs}

@@ -1,4 +1,4 @@
--- Each way is the definition's (Zeros), and the two words of what goes up are its quotient and remainder (words: Pairs). Assumes nothing.
+-- Each branch is the definition's (Alignments), and the two words of the shifted q are its quotient and remainder (word_wide: Pairs). Assumes nothing.
 use Prim.Native.Nat.{_*_, _^_}
 use mathlib.Core.Path.{_≡_, refl}
 use native.Mathlib.Nat.{add-zero}

@@ -1,4 +1,4 @@
--- Neither side wraps, since the number is within 2^20 (Places; algebra: Integers). Assumes nothing.
+-- Neither side wraps, since the number is within 2^20 (Alignments; algebra: Integers). Assumes nothing.
 use Prim.Native.Nat.{_+_, _^_}
 use mathlib.Core.Path.{_≡_}
 use mathlib.Core.Bool.{true, false}
@@ -13,7 +13,7 @@ use Rattle.fma_align.proofs.Alignments.{sides-below, sides-above}
 use Rattle.fma_align.proofs.align.sides_of.Statement.{statement}
 use Rattle.fma_align.proofs.align.sides_of.Tie as tie
 
--- the number turned
+-- the number negated
 module _ (c : tie.Then1) where
   abbrev turned : ℤ
   turned = pos 0 -ℤ c .before .args .d

@@ -1,4 +1,4 @@
--- No step of the sum wraps: all of its parts are small (algebra: Integers). Assumes nothing.
+-- No step of the sum wraps: all of its terms are small (algebra: Integers). Assumes nothing.
 use mathlib.Core.Path.{_≡_, refl}
 use native.Mathlib.Omega.{arith}
 use borrow.Author.Needs.{needs}

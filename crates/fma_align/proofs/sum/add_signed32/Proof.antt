@@ -1,4 +1,4 @@
--- Each way is the sum by the signs and the order (Joins). Assumes nothing.
+-- Each branch is the sum by the signs and the order (Joins). Assumes nothing.
 use mathlib.Core.Path.{refl}
 use borrow.Author.Needs.{needs}
 use Rattle.fma_align.proofs.Joins.{joins-alike, joins-less, joins-no-less}

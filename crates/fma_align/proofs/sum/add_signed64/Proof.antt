@@ -1,4 +1,4 @@
--- Each way is the sum by the signs and the order (Joins). Assumes nothing.
+-- Each branch is the sum by the signs and the order (Joins). Assumes nothing.
 use Prim.Native.Nat.{_≤_, _<_}
 use mathlib.Core.Path.{sym, _∙_}
 use native.Mathlib.Nat.{le-of-lt}
@@ -9,7 +9,7 @@ use Rattle.fma_align.proofs.Joins.{joins-alike, joins-less, joins-no-le
 use Rattle.fma_align.proofs.sum.add_signed64.Statement.{statement}
 use Rattle.fma_align.proofs.sum.add_signed64.Tie as tie
 
--- the order of the whole numbers, by the test of the words
+-- the order of the two-word numbers, by the test of the words
 less-is : (c : tie.Then2) → let s = c .before .before .before .args in value (s .a) < value (s .b)
 less-is c = let s = c .before .before .before .args in ltb-true (value (s .a)) (value (s .b)) (sym (c .before .less .ensures) ∙ c .if2 .taken)
 

@@ -1,4 +1,4 @@
--- Two words are 0 together where each of them is. Assumes nothing.
+-- A two-word number is 0 where both words are. Assumes nothing.
 use mathlib.Core.Path.{sym}
 use native.Mathlib.Omega.{arith}
 use borrow.Author.Tests.{ne-eqb}

@@ -1,4 +1,4 @@
--- The product of the significands, the sum of the places and the sign of the two numbers taken apart (norms), which are small (fusing: Room). Assumes nothing.
+-- The product of the significands, the sum of the exponents and the sign of the two unpacked numbers, all small (fma_laws: Room). Assumes nothing.
 use Prim.Native.Nat.{_*_}
 use mathlib.Core.Path.{_≡_, ap₂, _∙_}
 use native.Mathlib.Omega.{arith}

@@ -1,4 +1,4 @@
--- Each step makes what the law has there (fusing: Made), and all of it fits (fusing: Room). Assumes nothing.
+-- Each step computes the intermediate of the law (fma_laws: Made), and all of it fits (fma_laws: Room). Assumes nothing.
 use Prim.Native.Nat.{_+_, _-_, _*_, _^_, _<_}
 use mathlib.Core.Path.{_≡_, refl, sym, ap₂, _∙_, subst}
 use native.Mathlib.Omega.{arith}

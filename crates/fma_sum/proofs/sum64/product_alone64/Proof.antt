@@ -1,4 +1,4 @@
--- Twice the product, at an exponent that is one less, is the law's (fusing: Fused), and stays in reach (fusing: Room). Assumes nothing.
+-- Twice the product, with an exponent one less, is the law's (fma_laws: Fused), and stays within reach (fma_laws: Room). Assumes nothing.
 use Prim.Native.Nat.{_-_, _^_, _<_}
 use mathlib.Core.Path.{_≡_, sym, ap, ap₂, _∙_}
 use native.Mathlib.Omega.{arith}
