@@ -1,4 +1,4 @@
--- The classes by the pattern: one comparison finds all five, and one the four of which no root is taken. Assumes nothing.
+-- The classes by the pattern: one comparison finds all five, and one the four of which no root is computed. Assumes nothing.
 use Prim.Native.Nat.{ℕ, _+_, _-_, _/_, _%_, _^_, _≤_, _<_}
 use mathlib.Core.Path.{_≡_, refl, sym, ap, _∙_}
 use mathlib.Core.Bool.{Bool, true, false, _&&_, _||_, or-true}
@@ -16,7 +16,7 @@ use Rattle.ieee.proofs.Patterns.{inf-below-top}
 use Rattle.sqrt_number.specs.Split.{Above}
 use Rattle.sqrt.specs.Classes.{isZero, isSubnormal, isInfinite, isNan, isNegative, rootless, setAside}
 
--- ---- one of four is enough, and none is not
+-- ---- a disjunction of four
 module _ (a b c d : Bool) where
   first : a ≡ true → (a || b || c || d) ≡ true
   first h = rw h refl
@@ -37,7 +37,7 @@ neither : (a b : Bool) → (a || b) ≡ false → (a ≡ false) × (b ≡ false)
 neither true b h = absurd (let q : _≡_ {A = ℕ} 0 1 = cc in omega arith)
 neither false b h = (refl, h)
 
--- ---- the patterns from `least` up to infinity's are told by one comparison: v is x less the least, which wraps where x is below it
+-- ---- one comparison finds the patterns from `least` up to infinity: v is x less the least, which wraps where x is below it
 by-wrap : (f : Format) (x least i v : ℕ) (b : Bool) → i ≡ inf f → least ≤ i → (v + least) % 2 ^ 64 ≡ x → v < 2 ^ 64 → top f < 2 ^ 64
     → (x < least → b ≡ true) → (inf f ≤ x → b ≡ true) → (least ≤ x → x < inf f → b ≡ false) → leb (i - least) v ≡ b
 by-wrap f x least i v b q p w l g small high number =
@@ -108,7 +108,7 @@ module _ (f : Format) (x : ℕ) where
       (λ h. aside-first (zero-rootless (omega arith)))
       (λ h. aside-second (ap (λ t. t && ltb 0 (fraction f x)) (eq-eqb (field f x) 0 q) ∙ lt-ltb 0 (fraction f x) (omega (arith, p .1))))
 
-  -- a normal number above zero
+  -- a normal positive number
   normal-stays : 2 ^ f .frac ≤ x → x < inf f → setAside f x ≡ false
   unfolding setAside
   normal-stays l h =
@@ -125,7 +125,7 @@ module _ (f : Format) (x : ℕ) where
       by-wrap f x least i v (setAside f x) q p w l g
       (λ h. small-aside (omega arith)) (λ h. aside-first (high-rootless h)) (λ h k. normal-stays (omega arith) k)
 
-  -- what has a root is a number above zero
+  -- a pattern that has a root is a positive number
   pub rooted-above : rootless f x ≡ false → Above f x
   unfolding rootless
   rooted-above h =
@@ -154,7 +154,7 @@ module _ (f : Format) (x : ℕ) where
       absurd (let q : _≡_ {A = ℕ} 0 1 = cc in omega arith))
       (λ l. l)
 
-  -- ---- what has no root, is no zero and is not infinity lies past it
+  -- ---- a pattern that has no root, and is neither a zero nor infinity, is past infinity
   pub past-of : rootless f x ≡ true → 0 < magnitude f x → (x ≡ inf f → ⊥) → inf f < x
   past-of s some n =
       order x (inf f)

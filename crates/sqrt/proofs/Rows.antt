@@ -1,4 +1,4 @@
--- The rows of the root by the pattern, as the code tells them apart; and every answer is a pattern. Assumes nothing.
+-- The rows of sqrt by the pattern, as the code distinguishes them; every answer is a pattern. Assumes nothing.
 use Prim.Native.Nat.{ℕ, zero, suc, _-_, _≤_, _<_}
 use mathlib.Core.Path.{_≡_, ap, _∙_}
 use mathlib.Core.Bool.{Bool, true, false}
@@ -34,7 +34,7 @@ module _ (f : Format) (x : ℕ) where
   unfolding sqrtOf
   at-infinity e = let (m, s) = below-top (omega arith) in rows .of-infinity x (kind-infinite f x (m ∙ e)) s
 
-  -- a NaN, or below zero
+  -- a NaN, or negative
   pub past-infinity : inf f < x → 0 < magnitude f x → (sqrtOf f x ≡ canonical f) × (sqrtStatus f x ≡ INVALID)
   unfolding sqrtOf
   past-infinity l some =
@@ -52,7 +52,7 @@ module _ (f : Format) (x : ℕ) where
       go zero l k s = absurd (omega arith)
       go (suc u) l k s = rows .of-minus x u k s
 
-  -- a number not below zero, or +infinity
+  -- +0, a positive number or +infinity
   pub status-upto : 0 < inf f → Pattern f x → x ≤ inf f → sqrtStatus f x ≡ OK
   status-upto some p l =
       let (m, s) = below-top l in
@@ -71,7 +71,7 @@ module _ (f : Format) (x : ℕ) where
   pub status-top : 0 < inf f → Pattern f x → x ≡ top f → sqrtStatus f x ≡ OK
   status-top some p e = at-zero some p (mod-is x (top f) 1 0 (omega (arith, inf-below-top f)) (omega arith)) .1
 
-  -- past infinity, and not -0
+  -- past infinity, except -0
   pub status-past : Pattern f x → inf f < x → (x ≡ top f → ⊥) → sqrtStatus f x ≡ INVALID
   status-past p l n =
       past-infinity l

@@ -1,4 +1,4 @@
--- The classes of patterns that the root sets aside, one by one; the others are the normal numbers above zero. Assumes nothing.
+-- The classes of patterns that sqrt sets aside, one by one; all others are normal positive numbers. Assumes nothing.
 use Prim.Native.Nat.{ℕ}
 use mathlib.Core.Bool.{Bool, _&&_, _||_}
 use lib.Dec.{ltb, eqb}
@@ -20,7 +20,7 @@ isNan f x = ltb (inf f) (magnitude f x)
 abbrev pub isNegative : Format → ℕ → Bool
 isNegative f x = minus f x
 
--- no root is taken of these
+-- the classes of which no root is computed
 unfoldable pub rootless : Format → ℕ → Bool
 rootless f x = isZero f x || isInfinite f x || isNan f x || isNegative f x
 

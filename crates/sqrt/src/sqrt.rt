@@ -17,8 +17,8 @@ use sqrt_number::sqrt_number32;
 use sqrt_number::sqrt_number64;
 use word_bits::pow;
 
-// Whether x is a zero, subnormal, infinite, a NaN or negative. All other patterns run from that of the smallest normal number up to infinity's: less the
-// smallest, what was below it wraps to the far side of infinity, where NaNs and negative operands are.
+// Whether x is a zero, subnormal, infinite, a NaN or negative. All other patterns lie from the smallest normal number up to infinity. With the smallest
+// subtracted, those below it wrap to words past infinity, where the NaNs and the negative operands are.
 fn set_aside(frac: u32, expo: u32, x: u64) -> bool
     requires { ⌜ Fits frac expo ⌝ }
     ensures { λ r. ⌜ r ≡ setAside (format frac expo) x ⌝ }
@@ -28,7 +28,7 @@ fn set_aside(frac: u32, expo: u32, x: u64) -> bool
     std::num::wrapping_sub_u64(x, least) >= inf - least
 }
 
-// Whether no root is taken: the same without the subnormal numbers, by the pattern less one.
+// Whether no root is computed: the same without the subnormal numbers, by the pattern less one.
 fn has_no_root(frac: u32, expo: u32, x: u64) -> bool
     requires { ⌜ Fits frac expo ⌝ }
     ensures { λ r. ⌜ r ≡ rootless (format frac expo) x ⌝ }
@@ -37,7 +37,7 @@ fn has_no_root(frac: u32, expo: u32, x: u64) -> bool
     std::num::wrapping_sub_u64(x, 1) >= inf - 1
 }
 
-// Each of those by itself: zeros and +infinity are their own roots, the others are NaNs or below zero.
+// The answer for each of those: zeros and +infinity are their own roots, the others are NaNs or negative.
 fn sqrt_special(frac: u32, expo: u32, x: u64) -> u64
     requires { ⌜ Fits frac expo × Pattern (format frac expo) x × (rootless (format frac expo) x ≡ true) ⌝ }
     ensures { λ r. ⌜ r ≡ sqrtOf (format frac expo) x ⌝ }
@@ -53,7 +53,7 @@ fn sqrt_special(frac: u32, expo: u32, x: u64) -> u64
     nan(frac, expo)
 }
 
-// The root of every pattern of any format, by the plain root of a whole number.
+// The root of any pattern of any format, by digits.
 pub fn sqrt_pattern(frac: u32, expo: u32, x: u64) -> u64
     requires { ⌜ Fits frac expo × Pattern (format frac expo) x ⌝ }
     ensures { λ r. ⌜ r ≡ sqrtOf (format frac expo) x ⌝ }
@@ -64,7 +64,7 @@ pub fn sqrt_pattern(frac: u32, expo: u32, x: u64) -> u64
     sqrt_by_digits(frac, expo, x)
 }
 
-// INVALID for a NaN and for what is below zero: all that is past infinity but -0.
+// INVALID for NaNs and negative numbers: every pattern past infinity except -0.
 fn status_of(frac: u32, expo: u32, x: u64) -> u32
     requires { ⌜ Fits frac expo × Pattern (format frac expo) x ⌝ }
     ensures { λ r. ⌜ r ≡ sqrtStatus (format frac expo) x ⌝ }
@@ -80,7 +80,7 @@ fn status_of(frac: u32, expo: u32, x: u64) -> u32
     fmt_fields::env::INVALID
 }
 
-// What is set aside, by the table where it has a root.
+// The operands set aside: by the table where they have a root.
 fn sqrt_aside64(x: u64) -> u64
     ensures { λ r. ⌜ r ≡ sqrtOf b64 x ⌝ }
 {
@@ -99,7 +99,7 @@ fn sqrt_aside32(x: u32) -> u32
     sqrt_number32(x as u64)
 }
 
-// Most operands are told by the one comparison.
+// One comparison suffices for most operands.
 pub fn sqrt64(x: u64) -> u64
     ensures { λ r. ⌜ r ≡ sqrtOf b64 x ⌝ }
 {
@@ -136,7 +136,7 @@ pub fn sqrt32_status(x: u32) -> FpResult32
     }
 }
 
-// The status alone, which needs no root.
+// The status alone. It needs no root.
 pub fn status64(x: u64) -> u32
     ensures { λ r. ⌜ r ≡ sqrtStatus b64 x ⌝ }
 {

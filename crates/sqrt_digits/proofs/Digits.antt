@@ -1,4 +1,4 @@
--- One pair of bits more: the number has it below four times the one before, and the rest of the word moves up. Assumes nothing.
+-- The next pair of bits: the number is four times the one before, plus the pair, and the rest of the word moves up. Assumes nothing.
 use Prim.Native.Nat.{ℕ, suc, _+_, _*_, _/_, _%_, _^_, _≤_, _<_}
 use mathlib.Core.Path.{_≡_, sym, ap, _∙_}
 use native.Mathlib.Omega.{arith}
@@ -9,7 +9,7 @@ use Rattle.algebra.proofs.Products.{order, times, times-le}
 use Rattle.algebra.proofs.Roots.{sq-lt, Root, root-unique}
 use Rattle.sqrt_digits.specs.Floor.{FloorRoot, pairs}
 
--- the definition is the record of the algebra, of which there is one for each number
+-- the definition agrees with the record in algebra, which is unique for each number
 pub root-of : {n r : ℕ} → FloorRoot n r → Root n r
 root-of p = record { low = p .low; high = p .high }
 
@@ -17,7 +17,7 @@ pub floor-unique : (n r s : ℕ) → FloorRoot n r → FloorRoot n s → r ≡ s
 floor-unique n r s p q = root-unique n r s (root-of p) (root-of q)
 
 module _ (m k : ℕ) where
-  -- the word moved up by the pairs that were read
+  -- the word shifted left by the pairs already read
   abbrev moved : ℕ
   moved = m * 2 ^ (2 * k)
 
@@ -40,7 +40,7 @@ module _ (m k : ℕ) where
       few : pairs m k < 2 ^ (2 * k)
       few = shr-lt (2 * k) 64 (omega (arith, times-le (2 ^ (2 * k)) l, pow-add 2 (2 * k) 64, pow-pos (2 * k)))
 
--- what is left, and the root, for one pair more
+-- the residual and the root, with the next pair
 module _ (n root rem : ℕ) (is : FloorRoot n root) (left : rem + root * root ≡ n) where
   pub rem-small : rem ≤ 2 * root
   rem-small = omega (arith, is .high)

@@ -10,13 +10,13 @@ pub struct RootFloor {
     pub exact: bool,
 }
 
-// A root rounded down, and what its square leaves of the number.
+// A root rounded down, and its residual.
 struct PartialRoot {
     root: u64,
     rem: u64,
 }
 
-// One digit: the number is four times the square of the root so far, and rem. The next digit is 1 where the square grows by no more than rem.
+// One digit: the number is four times the square of the root so far, plus rem. The next digit is 1 where the square then grows by no more than rem.
 fn next_digit(root: u64, rem: u64) -> PartialRoot
     requires { ⌜ (root < 2 ^ 60) × (rem ≤ 8 * root + 3) ⌝ }
     ensures { λ r. ⌜ FloorRoot (4 * (root * root) + rem) (r .root) × (r .rem + r .root * r .root ≡ 4 * (root * root) + rem) ⌝ }

@@ -1,4 +1,4 @@
--- The last step gives the root within few units, and cut to whole ones the root or one less. Assumes nothing.
+-- The last step gives the root within a few units; truncated to a whole number, it is the root or one less. Assumes nothing.
 use mathlib.Core.Path.{_≡_, refl}
 use Prim.Native.Nat.{ℕ, _+_, _*_, _≤_, _<_}
 use native.Mathlib.Nat.{mul-le-mul}
@@ -47,7 +47,7 @@ reach Q m Y c H hm hc hY n =
     let i : Y + H + 1 ≡ Y + 4 + g = omega arith in
     rw i (omega (arith, n .hi, times-le c b, times-le (4 * (Y + 4)) f))
 
--- cut to a multiple of H, it is the root or one less
+-- truncated to a multiple of H, it is the root or one less
 pub almost : (H Y q M : ℕ) → 0 < H → q * H ≤ Y → Y < (q + 1) * H → 4 * (Y * Y) ≤ 4 * (H * H * M) → 4 * (H * H * M) < 4 * ((Y + H + 1) * (Y + H + 1)) → Almost M q
 almost H Y q M p l h a b =
     let t : Y + H + 1 ≤ (q + 2) * H = omega arith in
@@ -56,7 +56,7 @@ almost H Y q M p l h a b =
       hi = mul-lt-cancel M ((q + 2) * (q + 2)) (H * H) (omega (arith, mul-le-mul t t));
     }
 
--- and without its last bit, less than 3/2 below the root of a quarter
+-- without its last bit, it is less than 3/2 below the root of a quarter
 pub within : (n r q : ℕ) → 2 * q ≤ r → r ≤ 2 * q + 1 → r * r ≤ 4 * n → 4 * n < (r + 2) * (r + 2) → Within n q
 within n r q l h a b =
     let t : r + 2 ≤ 2 * q + 3 = omega arith in

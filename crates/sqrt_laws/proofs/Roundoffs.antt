@@ -1,4 +1,4 @@
--- What the cuts of a round cost: two units, on 3 - m r². Assumes nothing.
+-- The cost of truncation in a round: two units, on 3 - m r². Assumes nothing.
 use mathlib.Core.Path.{_≡_}
 use Prim.Native.Nat.{ℕ, _+_, _*_, _≤_, _<_}
 use native.Mathlib.Nat.{mul-le-mul}
@@ -31,7 +31,7 @@ rest Q m r k n =
     let (w, e) = le-split {a = m * (r * r)} {b = 3 * (16 * (Q * (Q * Q)))} (omega (arith, n .hi, times-le (16 * (Q * Q)) (n .small))) in
     (w, omega arith)
 
--- u is not below zero
+-- u is not negative
 pub twice : (Q m r k : ℕ) → Near Q m r k → m * (r * r) ≤ 2 * (16 * (Q * (Q * Q)))
 twice Q m r k n = omega (arith, n .hi, times-le (16 * (Q * Q)) (n .small))
 

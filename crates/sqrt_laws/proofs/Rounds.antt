@@ -1,4 +1,4 @@
--- A round never passes its aim, and squares the error. Assumes nothing.
+-- A round never overshoots, and squares the error. Assumes nothing.
 use mathlib.Core.Path.{refl}
 use Prim.Native.Nat.{ℕ, zero, suc, _+_, _*_, _≤_, _<_}
 use native.Mathlib.Nat.{mul-le-mul}
@@ -24,7 +24,7 @@ step Q m r s d u r′ k k′ p r0 hr m0 hm c l h n small′ hk =
     (omega (arith, g, times-le (160 * (Q * (Q * Q))) mr, times-le (400 * (Q * (Q * Q))) hm, times-le (128 * (Q * (Q * (Q * Q)))) hk, times-le (Q * (Q * (Q * Q))) p)) in
     record { near = record { lo = lo′; hi = omega arith; small = small′ }; below = b }
 
--- ---- from a half word to a word: the low digit of m is dropped in the first rounds
+-- ---- from a half word to a word: the first rounds drop the low digit of m
 pub widen : (q mh l r k : ℕ) → 1 ≤ k → r ≤ 4 * q → l < 4 * q → NearBelow q mh r k → Near (q * (4 * q)) (mh * (4 * q) + l) (r * (4 * q)) (k * (4 * q))
 widen q mh l r k k1 hr hl n =
     let a = mul-le-mul hl (mul-le-mul hr hr) in

@@ -1,4 +1,4 @@
--- The steps as they are computed, by quotients: each is a cut round, and none of its products passes a word of two digits to the base 4 Q. Assumes nothing.
+-- The steps as computed, by quotients: each is a truncated round, and each of its products fits in a word of two digits in base 4 Q. Assumes nothing.
 use Prim.Native.Nat.{ℕ, _+_, _*_, _/_, _≤_, _<_}
 use native.Mathlib.Nat.{mul-le-mul}
 use native.Mathlib.Omega.{arith}
@@ -20,7 +20,7 @@ up n d p = omega (arith, div-mod n d p)
 pub digits : {a b d : ℕ} → a < d → b < d → a * b < d * d
 digits {a} {b} {d} h l = omega (arith, mul-le-mul h l)
 
--- what a round needs to be safe
+-- what makes a round safe
 pub record Safe (Q m r : ℕ) : Type 0 where
   pub mr : m * r < 4 * Q * (4 * Q)
   pub s : rootBy Q m r < 4 * Q

@@ -1,4 +1,4 @@
--- How near a guess is. With the exact 1 / √m for r, m r² is 16 Q³. Assumes nothing.
+-- How near a guess is. For r exactly 1 / √m, m r² is 16 Q³. Assumes nothing.
 use Prim.Native.Nat.{ℕ, _+_, _*_, _≤_, _<_}
 
 -- m r² is 1 within k units
@@ -7,7 +7,7 @@ pub record Near (Q m r k : ℕ) : Type 0 where
   pub hi : m * (r * r) ≤ 16 * (Q * (Q * Q)) + k * (16 * (Q * Q))
   pub small : k ≤ Q
 
--- and not above it
+-- and not above 1
 pub record NearBelow (Q m r k : ℕ) : Type 0 where
   pub near : Near Q m r k
   pub below : m * (r * r) < 16 * (Q * (Q * Q))
@@ -17,7 +17,7 @@ pub record Almost (n q : ℕ) : Type 0 where
   pub lo : q * q ≤ n
   pub hi : n < (q + 2) * (q + 2)
 
--- q is not above √n, and √n is less than 3/2 above q: of q and the next, one is the whole number nearest to √n
+-- q is not above √n, and √n is less than 3/2 above q: q or the next is the whole number nearest to √n
 pub record Within (n q : ℕ) : Type 0 where
   pub lo : q * q ≤ n
   pub hi : 4 * n < (2 * q + 3) * (2 * q + 3)

@@ -1,4 +1,4 @@
--- A number taken apart: how large its parts are, and that the root of its word, whichever way it was found, gives the answer. Assumes nothing.
+-- An unpacked number: the sizes of its parts, and the answer by the root of its radicand, however that was found. Assumes nothing.
 use Prim.Native.Nat.{ℕ, _+_, _-_, _*_, _/_, _%_, _^_, _≤_, _<_}
 use mathlib.Core.Path.{_≡_, refl, subst, sym, ap, _∙_}
 use mathlib.Core.Bool.{Bool, false}
@@ -44,7 +44,7 @@ module _ {p e : ℕ} (w : Fits p e) (x : ℕ) (a : Above (format p e) x) (sig up
   pub root-fits : (t : ℕ) → FloorRoot (pairs word (p + 2)) t → t < 2 ^ 60
   root-fits t r = omega (arith, small t r, pow-mono {i = p + 2} {j = 60} (omega (arith, fraction-few w)))
 
-  -- what the table asks of the parts, in a format whose fraction leaves room below the bias
+  -- what the table requires of the parts, in a format whose fraction leaves room below the bias
   pub ready : p + 2 ≤ 2 ^ (e - 1) → Ready (format p e) sig up
   ready l = record { leads = led; from = up-least (format p e) (w .fair) x (a .some) up (h .up-is) l; to = up-most (format p e) (w .fair) x (a .some) up (h .up-is) }
 
@@ -63,7 +63,7 @@ module _ {p e : ℕ} (w : Fits p e) (x : ℕ) (a : Above (format p e) x) (sig up
       root-answer (format p e) (w .fair) x (a .some) up (h .up-is) (a .below) (a .plus) t b
       (subst (λ n. FloorRoot n t) square-is i) (j ∙ ap (eqb (t * t)) square-is)
 
-  -- ---- by the plain root, rounded by the general step
+  -- ---- by the root digit by digit, through the rounding step
   pub rounded-answers : (t : ℕ) (b : Bool) → FloorRoot (pairs word (p + 2)) t × (b ≡ eqb (t * t) (pairs word (p + 2))) → (r : ℕ)
       → r ≡ answer (format p e) ties-to-even false (scaled false (markedBy t b) (halfOf up)) → r ≡ sqrtOf (format p e) x
   rounded-answers t b i r k = k ∙ sym (answers t b i)

@@ -1,4 +1,4 @@
--- A root that makes a normal number: its cut is known, one bit of the root and the mark, and to the nearest that bit alone decides. Assumes nothing.
+-- A root that makes a normal number: its location is one bit of the root and the mark, and to the nearest that bit alone decides. Assumes nothing.
 use Prim.Native.Nat.{ℕ, zero, suc, _+_, _-_, _*_, _/_, _%_, _^_, _≤_, _<_}
 use mathlib.Core.Path.{_≡_, refl, sym, ap, _∙_}
 use mathlib.Core.Bool.{Bool, true, false}
@@ -18,7 +18,7 @@ use Rattle.round_laws.proofs.Stretched.{stretched-ratio}
 use Rattle.round_step.proofs.Rounds.{round-is}
 use Rattle.sqrt_number.specs.Split.{halfOf, markedBy}
 
--- a root of frac + 2 digits and a lifted exponent that make a normal number
+-- a root of frac + 2 bits and a lifted exponent that make a normal number
 pub record NormalRoot (f : Format) (root up : ℕ) : Type 0 where
   pub least : 2 * 2 ^ f .frac ≤ root
   pub most : root < 4 * 2 ^ f .frac
@@ -61,7 +61,7 @@ module _ (f : Format) (g : Fair f) (t lifted : ℕ) (i : NormalRoot f t lifted) 
       let (m, q) = locate-normal f g 2 s (up (halfOf lifted)) (dn (halfOf lifted)) (lifted / 2 - 2) l h (omega (arith, subZ (pos (lifted / 2)) (pos 4), i .from)) (omega (arith, i .from, i .to)) in
       rw stretched-ratio (m, q ∙ part-four (s % 4) (omega arith))
 
-  -- chosen to the nearest: up where the last bit is 1, since then the root is not exact
+  -- to the nearest: up where the last bit is 1, since the root is then not exact
   lands : (b : Bool) → (b ≡ true → t % 2 ≡ 0) → chosen even ((lifted / 2 - 2) * 2 ^ f .frac + markedBy t b / 4) (markedBy t b % 4) ≡ (lifted / 2 - 2) * 2 ^ f .frac + (t + 1) / 2
   lands true z =
       let q : t % 2 ≡ 0 = z refl in

@@ -1,4 +1,4 @@
--- The root of a number above zero is the whole root of its square, with the sticky mark, rounded. Assumes nothing.
+-- The root of a positive number is the whole root of its radicand, with the sticky mark, rounded. Assumes nothing.
 use Prim.Native.Nat.{ℕ, suc, _+_, _-_, _*_, _/_, _%_, _^_, _≤_, _<_}
 use mathlib.Core.Path.{_≡_, sym, ap, _∙_}
 use mathlib.Core.Bool.{Bool, true, false}
@@ -30,7 +30,7 @@ use Rattle.sqrt_digits.proofs.Digits.{root-of}
 use Rattle.sqrt_number.specs.Split.{lift, square, halfOf, markedBy}
 use Rattle.sqrt_number.proofs.Splits.{fields-twice}
 
--- ---- the mark is that of the root, by whether the square is met
+-- ---- the mark is that of the root, by whether the root is exact
 mark-of : (v n k t : ℕ) (b : Bool) → b ≡ eqb (t * t) k → 0 < n → v ≡ k * (2 * n * (2 * n)) → Root k t → Marked (root v) n (markedBy t b)
 mark-of v n k t true e p h r =
     root-marked v n k t 0 p h r (omega arith) (λ z. eqb-true (t * t) k (sym e)) (λ z. absurd (omega arith))
@@ -53,7 +53,7 @@ module _ (f : Format) (g : Fair f) (x : ℕ) (some : 0 < magnitude f x) (lifted 
   pub up-most : lifted / 2 < 2 ^ f .expo
   up-most = let (at, n) = normal-is f g x some in omega (arith, exponents at n, n .below-all, fields-twice f g, pow-pos (f .expo - 1))
 
-  -- in smallest units, the number times its units' scale is the square at the step of the mark
+  -- in smallest units, the number times the scale of its units is the radicand at the step of the mark
   counted : units f (magnitude f x) * 2 ^ low f * (2 ^ 4 * 2 ^ 4) ≡ square f x lifted * (2 * 2 ^ (lifted / 2) * (2 * 2 ^ (lifted / 2)))
   counted =
       let (at, n) = normal-is f g x some in
@@ -70,7 +70,7 @@ module _ (f : Format) (g : Fair f) (x : ℕ) (some : 0 < magnitude f x) (lifted 
       ap (λ j. sigOf f x * j) (r ∙ ap (λ j. 2 ^ p * (2 ^ (p + 2 + o) * j * j)) d) in
       mul-eq-cancel _ _ (2 ^ p) (pow-pos p) (omega (arith, times (2 ^ low f * 2 ^ 8) (n .counts), s))
 
-  -- the whole root has two digits more than the fraction
+  -- the whole root has two bits more than the fraction
   pub root-long : (t : ℕ) → FloorRoot (square f x lifted) t → 2 * 2 ^ p ≤ t
   root-long t r =
       let n = normal-is f g x some .1 in

@@ -1,4 +1,4 @@
--- The word whose root is taken holds the whole number, and its root fits in a word. Assumes nothing.
+-- The word of the radicand holds the whole number, and its root fits in a word. Assumes nothing.
 use Prim.Native.Nat.{ℕ, zero, suc, _+_, _-_, _*_, _/_, _%_, _^_, _≤_, _<_}
 use mathlib.Core.Path.{_≡_, sym, ap, _∙_}
 use native.Mathlib.Nat.{two-pow-succ}
@@ -21,18 +21,18 @@ use Rattle.sqrt_table.specs.Table.{Serves}
 use Rattle.sqrt_table.proofs.Rule.{serves-low, serves-high}
 use Rattle.sqrt_number.specs.Split.{lift, wordOf, Parts, Leads}
 
--- there are twice as many fields as the bias counts
+-- the number of exponent fields is twice a power of two
 pub fields-twice : (f : Format) → Fair f → 2 ^ f .expo ≡ 2 * 2 ^ (f .expo - 1)
 fields-twice f g =
     let e : f .expo ≡ suc (f .expo - 1) = omega (arith, g .expo-two) in
     ap (λ i. 2 ^ i) e ∙ omega (arith, two-pow-succ (f .expo - 1))
 
--- the exponent bits leave few for the fraction
+-- the exponent bits limit those of the fraction
 pub fraction-few : {p e : ℕ} → Fits p e → p ≤ 58
 fraction-few {p} {e} w =
     by-contra p 58 (λ l. omega (arith, pow-mono {i = e - 1} {j = 3} (omega (arith, w .word)), w .fair .frac-fits))
 
--- a number's significand leads
+-- a number's significand has its leading bit at bit frac
 pub leads : {p e : ℕ} → Fits p e → (x sig : ℕ) → 0 < magnitude (format p e) x → sig ≡ sigOf (format p e) x → Leads p sig
 leads {p} {e} w x sig some i =
     let n = normal-is (format p e) (w .fair) x some .1 in
@@ -68,7 +68,7 @@ module _ (p sig up : ℕ) (l : Leads p sig) where
       let d : 2 ^ (62 - p) * 2 ^ p ≡ 2 ^ 62 = pow-diff {a = 62} {b = p} (omega (arith, l .few)) in
       omega (arith, times-le (2 ^ by) (l .least), times-le (2 ^ p) m)
 
-  -- its root has a digit for each of the significand's, and more where they are asked for
+  -- its root has a digit for each bit of the significand, and `more` besides
   pub word-pairs : (more : ℕ) → pairs (wordOf p sig up) (p + 1 + more) ≡ sig * 2 ^ (p + 2 * more + odd)
   word-pairs more =
       let i : by + 2 * (p + 1 + more) ≡ p + 2 * more + odd + 64 = omega (arith, l .few) in
@@ -87,7 +87,7 @@ module _ (p sig up : ℕ) (l : Leads p sig) where
       let d : 2 ^ (p + 2 + odd) ≡ 2 ^ (p + 0 + odd) * 4 = ap (λ j. 2 ^ j) k ∙ pow-add 2 (p + 0 + odd) 2 in
       omega (arith, word-squares, ap (λ d. pairs (wordOf p sig up) d) (sym i) ∙ word-pairs 0, times sig d)
 
-  -- and the root's length is that of its digits
+  -- the root has as many bits as digits
   pub word-root : (q : ℕ) → q * q ≤ pairs (wordOf p sig up) (p + 1) → q < 2 * 2 ^ p
   word-root q h =
       sq-lt q (2 * 2 ^ p) (omega (arith, h, word-fourfold, word-squares, long))

@@ -1,4 +1,4 @@
--- The word of a significand by the table: what its root asks for, and what the root and its residual make. Assumes nothing.
+-- The radicand by the table: what its root requires, and what the root and its residual make. Assumes nothing.
 use Prim.Native.Nat.{ℕ, _+_, _-_, _*_, _/_, _^_, _≤_, _<_}
 use mathlib.Core.Path.{_≡_, refl, subst, sym}
 use native.Mathlib.Omega.{arith}
@@ -25,7 +25,7 @@ module _ (f : Format) (q up : ℕ) (n : Room f q up) where
   pub nearest-room : (rem : ℕ) → nearestOf (f .frac) q rem up < 2 ^ (f .frac + f .expo)
   nearest-room rem = omega (arith, one-more q rem, next-room (2 ^ f .frac) refl)
 
--- ---- the word as the code has it
+-- ---- the radicand as the code has it
 module _ (f : Format) (sig up : ℕ) (r : Ready f sig up) (word : ℕ) (is : word ≡ wordOf (f .frac) sig up) where
   pub in-step : (i : ℕ) → Serves i (wordOf (f .frac) sig up / 2 ^ 32) → Serves i (word / 2 ^ 32)
   in-step i s = subst (λ m. Serves i (m / 2 ^ 32)) (sym is) s

@@ -1,4 +1,4 @@
--- A number above zero split for its root: an exponent that is halved, and a whole number whose root is taken. Assumes nothing.
+-- A positive number split for its root: an exponent to be halved, and a radicand. Assumes nothing.
 use Prim.Native.Nat.{ℕ, _+_, _-_, _*_, _/_, _%_, _^_, _≤_, _<_}
 use mathlib.Core.Path.{_≡_}
 use mathlib.Core.Bool.{Bool, false, cond}
@@ -10,29 +10,29 @@ use Rattle.fmt_decode.specs.Significand.{sigOf}
 use Rattle.sqrt_digits.specs.Floor.{pairs}
 use Rattle.sqrt_table.specs.Residual.{Residual, nearestBy}
 
--- an exponent counted from so far down that it is not below zero: 2 ^ expo + frac more than the power of two that the significand stands at
+-- added to an exponent, to keep it from being negative
 abbrev pub lift : Format → ℕ
 lift f = 2 ^ f .expo + f .frac
 
--- where it is odd, the significand takes one of the twos; its root then has frac + 2 digits
+-- the radicand: where the exponent is odd, the significand takes one factor of two. Its root has frac + 2 bits
 abbrev pub square : Format → ℕ → ℕ → ℕ
 square f x up = sigOf f x * 2 ^ (f .frac + 2 + up % 2)
 
--- the exponent of the root in smallest units, where the mark is one digit more
+-- the exponent of the root in smallest units, where the mark is one bit more
 abbrev pub halfOf : ℕ → ℤ
 halfOf up = pos (up / 2) -ℤ pos 4
 
--- the root with its sticky mark: a last bit that says that the root is not exact
+-- the root with its sticky mark: a last bit that is set where the root is not exact
 abbrev pub markedBy : ℕ → Bool → ℕ
 markedBy root exact = 2 * root + cond exact 0 1
 
--- x is a finite number above zero
+-- x is a finite positive number
 pub record Above (f : Format) (x : ℕ) : Type 0 where
   pub some : 0 < magnitude f x
   pub below : magnitude f x < inf f
   pub plus : minus f x ≡ false
 
--- its significand, and its lifted exponent
+-- its significand and its lifted exponent
 pub record Parts (f : Format) (x sig up : ℕ) : Type 0 where
   pub sig-is : sig ≡ sigOf f x
   pub up-is : pos up ≡ normExpOf f x +ℤ pos (lift f)
@@ -43,16 +43,16 @@ pub record Leads (p sig : ℕ) : Type 0 where
   pub most : sig < 2 * 2 ^ p
   pub few : p ≤ 58
 
--- the word that holds the square's leading bits
+-- the word that holds the radicand's leading bits
 abbrev pub wordOf : ℕ → ℕ → ℕ → ℕ
 wordOf p sig up = sig * 2 ^ (62 - p + up % 2)
 
 -- ---- by the table
--- the normal number that a root of frac + 1 digits makes, or the next, by the residual
+-- the normal number of a root of frac + 1 bits, or the next, by the residual
 abbrev pub nearestOf : ℕ → ℕ → ℕ → ℕ → ℕ
 nearestOf p root rem up = (up / 2 - 2) * 2 ^ p + nearestBy root rem
 
--- what the table asks of the parts
+-- what the table requires of the parts
 pub record Ready (f : Format) (sig up : ℕ) : Type 0 where
   pub leads : Leads (f .frac) sig
   pub from : 4 ≤ up
@@ -64,7 +64,7 @@ pub record Room (f : Format) (root up : ℕ) : Type 0 where
   pub from : 4 ≤ up
   pub to : up / 2 < 2 ^ f .expo
 
--- r is what the root of sig, at the lifted exponent up, makes to the nearest
+-- r is the root of sig at the lifted exponent up, to the nearest
 pub record NearestRoot (p sig up r : ℕ) : Type 0 where
   pub root : ℕ
   pub rem : ℕ

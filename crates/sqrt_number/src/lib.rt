@@ -1,4 +1,4 @@
-// The root of a number above zero: the exponent halved, the whole root of the significand, and the rounding.
+// The root of a positive number: the exponent halved, the root of the significand, and the rounding.
 ghost use mathlib.Core.Path.{_≡_};
 ghost use mathlib.Core.Bool.{false};
 ghost use Prim.Native.Nat.{_+_, _-_, _*_, _/_, _%_, _≤_, _<_, _^_};
@@ -23,13 +23,13 @@ use sqrt_table::root::root24;
 use sqrt_table::root::root53;
 use word_bits::pow;
 
-// A significand, and its exponent, lifted.
+// A significand and its lifted exponent.
 struct Lifted {
     sig: u64,
     up: u32,
 }
 
-// The exponent counted from so far down that it is not below zero, so that it is halved as a whole number.
+// The exponent with a constant added, so that it is not negative and is halved as a whole number.
 fn lift_exponent(frac: u32, expo: u32, exp: i32) -> u32
     requires { ⌜ Fits frac expo × (mag exp < 2 ^ 20) × T (leZ (negℤ (pos (low (format frac expo) + frac))) exp) ⌝ }
     ensures { λ r. ⌜ pos r ≡ exp +ℤ pos (lift (format frac expo)) ⌝ }
@@ -45,7 +45,7 @@ fn halve_exponent(up: u32) -> i32
     (up / 2) as i32 - 4
 }
 
-// A root with a last bit that says that it is not exact.
+// A root with a last bit that is set where the root is not exact.
 fn mark_inexact(root: u64, exact: bool) -> u64
     requires { ⌜ root < 2 ^ 63 ⌝ }
     ensures { λ r. ⌜ r ≡ markedBy root exact ⌝ }
@@ -53,7 +53,7 @@ fn mark_inexact(root: u64, exact: bool) -> u64
     if exact { root * 2 } else { root * 2 + 1 }
 }
 
-// A number above zero taken apart.
+// Unpacks a positive number.
 fn split(frac: u32, expo: u32, x: u64) -> Lifted
     requires { ⌜ Fits frac expo × (0 < magnitude (format frac expo) x) × (magnitude (format frac expo) x < inf (format frac expo)) ⌝ }
     ensures { λ r. ⌜ Parts (format frac expo) x (r .sig) (r .up) ⌝ }
@@ -65,7 +65,7 @@ fn split(frac: u32, expo: u32, x: u64) -> Lifted
     }
 }
 
-// A normal number above zero, whose pattern has both parts as they are.
+// Unpacks a normal positive number: its pattern has both parts as they are.
 fn split_normal(frac: u32, expo: u32, x: u64) -> Lifted
     requires { ⌜ Fits frac expo × (0 < field (format frac expo) x) ⌝ }
     ensures { λ r. ⌜ Parts (format frac expo) x (r .sig) (r .up) ⌝ }
@@ -75,7 +75,7 @@ fn split_normal(frac: u32, expo: u32, x: u64) -> Lifted
     Lifted { sig, up: up as u32 }
 }
 
-// The word whose root is taken: the significand goes up as far as a word allows by a whole number of pairs, one bit further where the exponent is odd.
+// The radicand: the significand shifted left by as many pairs of bits as a word allows, and one bit further where the exponent is odd.
 fn word_of(frac: u32, sig: u64, up: u32) -> u64
     requires { ⌜ Leads frac sig ⌝ }
     ensures { λ r. ⌜ r ≡ wordOf frac sig up ⌝ }
@@ -83,8 +83,8 @@ fn word_of(frac: u32, sig: u64, up: u32) -> u64
     sig << (62 - frac + up % 2)
 }
 
-// The step of the table that this word lies in: the six bits after the leading one, and the half of the table by the exponent. The remainder tells the compiler
-// that there are no further steps.
+// The step of the table for this radicand: the six bits after the leading one, and the half of the table by the exponent. The remainder tells the compiler
+// that the index is in range.
 fn step_of(frac: u32, sig: u64, up: u32) -> u64
     requires { ⌜ Leads frac sig × (6 ≤ frac) ⌝ }
     ensures { λ i. ⌜ Serves i (wordOf frac sig up / 2 ^ 32) ⌝ }
@@ -92,7 +92,7 @@ fn step_of(frac: u32, sig: u64, up: u32) -> u64
     ((sig >> (frac - 6)) - 64 * (up % 2) as u64) % 128
 }
 
-// A root of any format put together with the halved exponent, and rounded.
+// Combines a root with the halved exponent, and rounds. For any format.
 fn round_root(frac: u32, expo: u32, whole: RootFloor, up: u32) -> u64
     requires { ⌜ Fits frac expo × (whole .root < 2 ^ 60) × (up < 2 ^ 20) ⌝ }
     ensures { λ r. ⌜ r ≡ answer (format frac expo) ties-to-even false (scaled false (markedBy (whole .root) (whole .exact)) (halfOf up)) ⌝ }
@@ -106,8 +106,8 @@ fn round_root(frac: u32, expo: u32, whole: RootFloor, up: u32) -> u64
     )
 }
 
-// The pattern of the number nearest to a root, where that is a normal number. The next is nearer exactly where the residual is greater than the root: the middle
-// between them has the square root² + root + 1/4.
+// The pattern of the number nearest to a root, where that is normal. The next number is nearer exactly where the residual exceeds the root: the middle between
+// them has the square root² + root + 1/4.
 fn nearest_to_root(frac: u32, expo: u32, root: u64, rem: u64, up: u32) -> u64
     requires { ⌜ Fits frac expo × Room (format frac expo) root up ⌝ }
     ensures { λ r. ⌜ r ≡ nearestOf frac root rem up ⌝ }
@@ -119,7 +119,7 @@ fn nearest_to_root(frac: u32, expo: u32, root: u64, rem: u64, up: u32) -> u64
     below
 }
 
-// A finite number above zero, of any format, by the plain root.
+// The root of a finite positive number of any format, by digits.
 pub fn sqrt_by_digits(frac: u32, expo: u32, x: u64) -> u64
     requires { ⌜ Fits frac expo × Above (format frac expo) x ⌝ }
     ensures { λ r. ⌜ r ≡ sqrtOf (format frac expo) x ⌝ }
@@ -133,7 +133,7 @@ pub fn sqrt_by_digits(frac: u32, expo: u32, x: u64) -> u64
     )
 }
 
-// The root of a significand at a lifted exponent, by the table, at 64 bits and at 32. Each width has one body, so that the compiler lays it out for that width.
+// The root of a significand with a lifted exponent, by the table. A body for each width, so that the compiler can lay it out for that width.
 fn by_table64(sig: u64, up: u32) -> u64
     requires { ⌜ Ready b64 sig up ⌝ }
     ensures { λ r. ⌜ NearestRoot 52 sig up r ⌝ }
@@ -150,7 +150,7 @@ fn by_table32(sig: u64, up: u32) -> u32
     nearest_to_root(23, 8, close.root, close.rem, up) as u32
 }
 
-// A finite number above zero, by the table.
+// The root of a finite positive number, by the table.
 pub fn sqrt_number64(x: u64) -> u64
     requires { ⌜ Above b64 x ⌝ }
     ensures { λ r. ⌜ r ≡ sqrtOf b64 x ⌝ }
@@ -167,7 +167,7 @@ pub fn sqrt_number32(x: u64) -> u32
     by_table32(s.sig, s.up)
 }
 
-// A normal number above zero, by the table: it needs no leading zeros to be counted.
+// The root of a normal positive number, by the table. There are no leading zeros to count.
 pub fn sqrt_normal64(x: u64) -> u64
     requires { ⌜ Above b64 x × (0 < field b64 x) ⌝ }
     ensures { λ r. ⌜ r ≡ sqrtOf b64 x ⌝ }

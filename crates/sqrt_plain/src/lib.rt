@@ -1,4 +1,4 @@
-// The plain root as C functions, for runs beside the table's; not part of the face `paskerotim`.
+// The root by digits as C functions, to run beside the table's; not part of `paskerotim`.
 ghost use mathlib.Core.Path.{_≡_};
 ghost use Rattle.ieee.specs.Format.{b64, b32};
 ghost use Rattle.ieee.specs.Sqrt.{sqrtOf};

@@ -1,4 +1,4 @@
--- The table's rule, one test over the whole table, and what it says of the step that an entry serves. Assumes nothing.
+-- The rule of the table, one test over all entries, and what it says of the step that an entry serves. Assumes nothing.
 use mathlib.Core.Path.{_≡_}
 use mathlib.Core.Bool.{Bool, _&&_}
 use Prim.Native.Nat.{ℕ, _+_, _*_, _-_, _/_, _%_, _^_, _≤_, _<_}
@@ -11,7 +11,7 @@ use Rattle.sqrt_laws.specs.Near.{Near}
 use Rattle.sqrt_table.specs.Table.{entryOf, rowOf, first, past, Serves}
 use Rattle.sqrt_table.proofs.Sweeps.{every-at}
 
--- ---- the entries are those of the rows' words, and 16 bits long
+-- ---- the entries are those of the rows' words, and have 16 bits
 abbrev cutOut : ℕ → ℕ
 cutOut i = rowOf (i / 4) / 2 ^ (16 * (i % 4)) % 2 ^ 16
 
@@ -48,7 +48,7 @@ served i m s = near (entryOf i) (between i m s)
     near : (x : ℕ) → (65280 ^ 2 * 2 ^ 30 < x * x * m) × (x * x * m < 65792 ^ 2 * 2 ^ 30) → Near (2 ^ 30) m (x * 2 ^ 16) 8404992
     near x (lo, hi) = record { lo = omega arith; hi = omega arith; small = omega arith }
 
--- and what is read of it there is near, and half a word
+-- the guess read there is near, and half a word
 pub start-near : (i m r : ℕ) → Serves i m → r ≡ entryOf i * 2 ^ 16 → Near (2 ^ 30) m r 8404992 × (r < 2 ^ 32)
 start-near i m r s e = (rw e (served i m s), omega (arith, entry-small i (s .at)))
 

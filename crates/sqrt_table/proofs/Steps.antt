@@ -1,4 +1,4 @@
--- The rounds at their widths: how near each guess is, from the table's 8404992 units of 2 ^ 30 to 65799 and 10, and the root that the last one gives.
+-- The rounds at their widths: how near each guess is, from the table's 8404992 units of 2 ^ -30 to 65799 and 10, and the root that the last round gives.
 -- Assumes nothing.
 use mathlib.Core.Path.{_≡_, subst}
 use Prim.Native.Nat.{ℕ, _+_, _*_, _-_, _/_, _%_, _^_, _≤_, _<_}
@@ -13,7 +13,7 @@ use Rattle.sqrt_laws.proofs.Lasts.{Ends, reach, almost, within}
 use Rattle.sqrt_laws.proofs.Steps.{Safe, safe, next-near, last-near}
 use Rattle.sqrt_table.specs.Guess.{Takes}
 
--- none of a round's products passes the word, and its factor is not below zero
+-- each product of a round fits in the word, and its factor is not negative
 pub all-safe : (m r : ℕ) → Takes m r → Safe (2 ^ 30) m r
 all-safe m r t = safe (2 ^ 30) m r (omega arith) (t .number) (t .guess) (t .low)
 
@@ -43,7 +43,7 @@ module _ (m : ℕ) (lm : 2 ^ 30 ≤ m) (hm : m < 2 ^ 32) where
       (w, sq-lt (y / 64) (2 ^ 24) (omega (arith, w .lo)))
 
 module _ (m : ℕ) (lm : 2 ^ 62 ≤ m) (hm : m < 2 ^ 64) where
-  -- what the rounds on the upper half give, for the whole word
+  -- the rounds on the upper half, for the whole word
   pub whole : (r : ℕ) → NearBelow (2 ^ 30) (m / 2 ^ 32) r 10 → (r < 2 ^ 32) × Near (2 ^ 62) m (r * 2 ^ 32) (10 * 2 ^ 32)
   whole r n =
       let h : r < 2 ^ 32 = digit (2 ^ 30) (m / 2 ^ 32) r 10 (omega arith) n in
@@ -59,7 +59,7 @@ module _ (m : ℕ) (lm : 2 ^ 62 ≤ m) (hm : m < 2 ^ 64) where
       let w : Within (m * 2 ^ 42) (y / 512) = within (m * 2 ^ 42) (y / 256) (y / 512) (omega arith) (omega arith) (omega (arith, a .lo)) (omega (arith, a .hi)) in
       (w, sq-lt (y / 512) (2 ^ 53) (omega (arith, w .lo)))
 
--- the wide round as it is computed: its factor is not below zero, and its three products are those of the last step
+-- the wide round as computed: its factor is not negative, and its three products are those of the last step
 module _ (m r s d : ℕ) (p : s ≡ m * r / 2 ^ 64) (q : d ≡ s * r / 2 ^ 64) where
   pub wide-room : m < 2 ^ 64 → r < 2 ^ 64 → Near (2 ^ 62) m r (10 * 2 ^ 32) → d ≤ 3 * 2 ^ 62 - 2
   wide-room hm hr n =

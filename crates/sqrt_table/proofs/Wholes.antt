@@ -1,4 +1,4 @@
--- A root by its residual and a root digit by digit are alike: root, exactness and nearest number. Assumes nothing.
+-- A root by its residual and a root by digits agree: root, exactness and nearest number. Assumes nothing.
 use mathlib.Core.Path.{_≡_, sym, ap, _∙_}
 use mathlib.Core.Bool.{Bool, or-false}
 use Prim.Native.Nat.{ℕ, _+_, _*_, _-_, _/_, _%_, _^_, _<_}
@@ -11,7 +11,7 @@ use Rattle.sqrt_digits.specs.Floor.{FloorRoot}
 use Rattle.sqrt_digits.proofs.Digits.{floor-unique}
 use Rattle.sqrt_table.specs.Residual.{Residual, floorBy, exactBy, nearestBy}
 
--- ---- the residual is so small that the low words give it
+-- ---- the residual is small, so the low words give it
 pub low-words : (n q a r : ℕ) → Within n q → q < 2 ^ 53 → r < 2 ^ 64 → a ≡ q * q % 2 ^ 64 → (r + a) % 2 ^ 64 ≡ n % 2 ^ 64 → r ≡ n - q * q
 low-words n q a r w l h i e =
     let s : n - q * q < 2 ^ 55 = omega (arith, w .hi) in
@@ -26,7 +26,7 @@ met a b x y e =
     (λ l. ne-eqb a b (omega arith) ∙ sym (ne-eqb x y (omega arith)))
 
 module _ (n q rem : ℕ) (r : Residual n q rem) where
-  -- the root rounded down is q or the next, by whether the next square is met; and it is exact where nothing is left of it
+  -- the root rounded down is q or the next, by whether the next square is at most n; it is exact where its residual is 0
   pub alike : (t : ℕ) (e : Bool) → FloorRoot n t × (e ≡ eqb (t * t) n) → (t ≡ floorBy q rem) × (e ≡ exactBy q rem)
   alike t e (f, i) =
       order (2 * q + 1) rem
@@ -39,7 +39,7 @@ module _ (n q rem : ℕ) (r : Residual n q rem) where
       let same : eqb (t * t) n ≡ eqb rem 0 = ap (λ k. eqb (k * k) n) t-is ∙ sym (met rem 0 (q * q) n (omega (arith, r .sum))) in
       rw (lt-leb (2 * q + 1) rem l, ne-eqb rem (2 * q + 1) (omega arith)) (omega arith, i ∙ same ∙ sym (or-false (eqb rem 0))))
 
-  -- there is a root with one digit more
+  -- the root with one digit more exists
   pub longer-root : (t : ℕ) × FloorRoot (4 * n) t
   longer-root =
       order (4 * ((q + 1) * (q + 1))) (4 * n)

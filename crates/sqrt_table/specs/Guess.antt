@@ -1,7 +1,7 @@
--- A guess at 1 / √m that a round on half words can take. Assumes nothing.
+-- A guess at 1 / √m that a round on half words accepts. Assumes nothing.
 use Prim.Native.Nat.{ℕ, _*_, _^_, _≤_, _<_}
 
--- both are half words, and the guess is not so large that a factor would be below zero
+-- both are half words, and the guess is small enough that no factor is negative
 pub record Takes (m r : ℕ) : Type 0 where
   pub number : m < 2 ^ 32
   pub guess : r < 2 ^ 32

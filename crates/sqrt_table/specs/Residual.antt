@@ -4,12 +4,12 @@ use mathlib.Core.Path.{_≡_}
 use mathlib.Core.Bool.{Bool, _||_, cond}
 use lib.Dec.{eqb, leb, ltb}
 
--- the square of q and rem make n, and √n is less than 3/2 above q
+-- rem is n less the square of q, and √n is less than 3/2 above q
 pub record Residual (n q rem : ℕ) : Type 0 where
   pub sum : q * q + rem ≡ n
   pub near : 4 * n < (2 * q + 3) * (2 * q + 3)
 
--- the root rounded down, whether it is exact, and the whole number nearest to it: there is no tie, since n is whole
+-- the root rounded down, whether it is exact, and the whole number nearest to it; there is no tie, since n is whole
 abbrev pub floorBy : ℕ → ℕ → ℕ
 floorBy q rem = q + cond (leb (2 * q + 1) rem) 1 0
 

@@ -3,7 +3,7 @@ ghost use mathlib.Core.Path.{_≡_};
 ghost use Prim.Native.Nat.{_*_, _<_, _^_};
 ghost use Rattle.sqrt_table.specs.Table.{rowOf, entryOf};
 
-// The entries of `table`, four a word, the first lowest. The compiler copies a constant array to the stack at each call, and reads a match on constants where it stands.
+// The entries of `table`, four to a word, the first lowest. The compiler copies a constant array to the stack at each call, but reads a match on constants from static data.
 fn row(j: u64) -> u64
     requires { ⌜ j < 32 ⌝ }
     ensures { λ r. ⌜ r ≡ rowOf j ⌝ }
@@ -44,7 +44,7 @@ fn row(j: u64) -> u64
     }
 }
 
-// The entry i, of its row.
+// Entry i, extracted from its row.
 fn packed_entry(i: u64) -> u64
     requires { ⌜ i < 128 ⌝ }
     ensures { λ r. ⌜ r ≡ entryOf i ⌝ }
@@ -53,7 +53,7 @@ fn packed_entry(i: u64) -> u64
     (w >> (16 * (i % 4)) as u32) % 0x1_0000
 }
 
-// The entry i as a guess with 32 fraction bits.
+// Entry i as a guess with 32 fraction bits.
 pub fn reciprocal(i: u64) -> u64
     requires { ⌜ i < 128 ⌝ }
     ensures { λ r. ⌜ r ≡ entryOf i * 2 ^ 16 ⌝ }

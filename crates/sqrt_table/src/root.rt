@@ -1,4 +1,4 @@
-// The root of a whole number by libm's table and Goldschmidt's rounds, with its residual: of 53 digits and of 24. `sqrt_digits::floor_root` has it digit by digit.
+// The root of a whole number, of 53 bits or of 24, with its residual, by libm's table and Goldschmidt's rounds. `sqrt_digits::floor_root` computes it digit by digit.
 ghost use mathlib.Core.Path.{_≡_};
 ghost use Prim.Native.Nat.{_-_, _*_, _/_, _%_, _≤_, _<_, _^_};
 ghost use Rattle.sqrt_laws.specs.Near.{Near, Within};
@@ -11,13 +11,13 @@ use crate::reciprocal::reciprocal;
 use word_wide::product::mul_hi;
 use word_wide::product::mul_lo;
 
-// A whole number next to a root, and its residual: what its square leaves of the number.
+// A whole number next to a root, and its residual: the number less its square.
 pub struct NearRoot {
     pub root: u64,
     pub rem: u64,
 }
 
-// What a round on half words begins with: √m by the guess, and 3 less the product of both.
+// The start of a round on half words: √m by the guess, and 3 less the product of both.
 struct Round {
     root: u64,
     factor: u64,
@@ -33,7 +33,7 @@ fn begin_round(m: u64, r: u64) -> Round
     Round { root, factor }
 }
 
-// A round on half words: the reciprocal root refined.
+// A round on half words: refines the reciprocal root.
 fn refine(m: u64, r: u64) -> u64
     requires { ⌜ Takes m r ⌝ }
     ensures { λ q. ⌜ q ≡ next (2 ^ 30) m r ⌝ }
@@ -51,7 +51,7 @@ fn last_narrow(m: u64, r: u64) -> u64
     b.root * b.factor / 0x1_0000_0000
 }
 
-// √m cut to 24 bits. The remainder tells the compiler that the reciprocal root is half a word.
+// √m truncated to 24 bits. The remainder tells the compiler that the reciprocal root is half a word.
 fn guess_narrow(m: u64, i: u64) -> u64
     requires { ⌜ (2 ^ 30 ≤ m) × (m < 2 ^ 32) × Serves i m ⌝ }
     ensures { λ q. ⌜ Within (m * 2 ^ 16) q × (q < 2 ^ 24) ⌝ }
@@ -83,7 +83,7 @@ fn last_wide(m: u64, r: u64) -> u64
     mul_hi(s, u)
 }
 
-// √m cut to 53 bits.
+// √m truncated to 53 bits.
 fn guess_wide(m: u64, i: u64) -> u64
     requires { ⌜ (2 ^ 62 ≤ m) × Serves i (m / 2 ^ 32) ⌝ }
     ensures { λ q. ⌜ Within (m * 2 ^ 42) q × (q < 2 ^ 53) ⌝ }
@@ -92,7 +92,7 @@ fn guess_wide(m: u64, i: u64) -> u64
     last_wide(m, r * 0x1_0000_0000) / 512
 }
 
-// The residual of such a q, what its square leaves of the number: it is small, so that the low words give it.
+// The residual of such a q, m less its square. It is small, so the low words give it.
 fn residual(m: u64, q: u64) -> u64
     requires { ⌜ Within (m * 2 ^ 42) q × (q < 2 ^ 53) ⌝ }
     ensures { λ r. ⌜ r ≡ m * 2 ^ 42 - q * q ⌝ }
@@ -100,7 +100,7 @@ fn residual(m: u64, q: u64) -> u64
     std::num::wrapping_sub_u64(m << 42, mul_lo(q, q))
 }
 
-// The root of the first 24 pairs of bits, of a word whose lower half is zero and whose step of the table is i.
+// The root of the first 24 pairs of bits of a word whose lower half is zero and whose step of the table is i.
 pub fn root24(m: u64, i: u64) -> NearRoot
     requires { ⌜ (2 ^ 62 ≤ m) × (m % 2 ^ 32 ≡ 0) × Serves i (m / 2 ^ 32) ⌝ }
     ensures { λ r. ⌜ Residual (pairs m 24) (r .root) (r .rem) ⌝ }
@@ -111,7 +111,7 @@ pub fn root24(m: u64, i: u64) -> NearRoot
     NearRoot { root, rem }
 }
 
-// The root of the first 53 pairs of bits, of a word whose step of the table is i.
+// The root of the first 53 pairs of bits of a word whose step of the table is i.
 pub fn root53(m: u64, i: u64) -> NearRoot
     requires { ⌜ (2 ^ 62 ≤ m) × Serves i (m / 2 ^ 32) ⌝ }
     ensures { λ r. ⌜ Residual (pairs m 53) (r .root) (r .rem) ⌝ }

@@ -134,7 +134,7 @@ const RSQRT_TAB: [u16; 128] = [
     0xb560,
 ];
 
-// The entry i.
+// Entry i.
 pub fn entry(i: u64) -> u64
     requires { ⌜ i < 128 ⌝ }
     ensures { λ r. ⌜ r ≡ entryOf i ⌝ }

@@ -1,4 +1,4 @@
--- The invariant: the root of the pairs that were read, what its square leaves of them, and the rest of the word (Digits). Assumes nothing.
+-- The invariant: the root of the pairs already read, its residual, and the rest of the word (Digits). Assumes nothing.
 use Prim.Native.Nat.{ℕ, suc, _+_, _*_, _/_, _%_, _^_, _≤_, _<_}
 use mathlib.Core.Path.{_≡_, subst, _∙_}
 use native.Mathlib.Omega.{arith}

@@ -1,4 +1,4 @@
--- The square of 2 root + 1 is that of 2 root and the trial; with the next digit in place less than the next trial is left. Assumes nothing.
+-- The square of 2 root + 1 is that of 2 root plus the trial; after the next digit the residual is below the next trial. Assumes nothing.
 use native.Mathlib.Omega.{arith}
 use borrow.Author.Needs.{needs}
 use Rattle.sqrt_digits.proofs.next_digit.Statement.{statement}

@@ -1,4 +1,4 @@
--- The root of the word and its residual, to the nearest (Tables). Assumes nothing.
+-- The root of the radicand and its residual, to the nearest (Tables). Assumes nothing.
 use Prim.Native.Nat.{_%_}
 use native.Mathlib.Omega.{arith}
 use borrow.Author.Needs.{needs}

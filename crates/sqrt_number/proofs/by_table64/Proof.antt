@@ -1,4 +1,4 @@
--- The root of the word and its residual, to the nearest (Tables). Assumes nothing.
+-- The root of the radicand and its residual, to the nearest (Tables). Assumes nothing.
 use borrow.Author.Needs.{needs}
 use Rattle.ieee.specs.Format.{b64}
 use Rattle.fmt_fields.proofs.Widths.{fits64}

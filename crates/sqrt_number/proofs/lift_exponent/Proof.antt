@@ -1,4 +1,4 @@
--- No step wraps, and the sum is not below zero, since the fraction has fewer bits than the bias counts (algebra: Integers). Assumes nothing.
+-- No step wraps, and the sum is not negative, since the fraction has fewer bits than the bias (algebra: Integers). Assumes nothing.
 use Prim.Native.Nat.{_+_, _^_, _≤_, _<_}
 use mathlib.Core.Path.{_≡_, ap, _∙_}
 use native.Mathlib.Omega.{arith}

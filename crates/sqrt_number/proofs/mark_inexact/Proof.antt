@@ -1,4 +1,4 @@
--- The mark is 0 where the root is exact, and else 1. Assumes nothing.
+-- The mark is 0 where the root is exact, otherwise 1. Assumes nothing.
 use Prim.Native.Nat.{ℕ}
 use mathlib.Core.Path.{ap}
 use mathlib.Core.Bool.{cond}

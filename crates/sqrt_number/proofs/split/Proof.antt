@@ -1,4 +1,4 @@
--- The exponent is small, and lifted it is not below zero. Assumes nothing.
+-- The exponent is small, and not negative when lifted. Assumes nothing.
 use Prim.Native.Nat.{_+_, _^_, _<_}
 use mathlib.Core.Path.{_≡_, ap, _∙_}
 use native.Mathlib.Omega.{arith}

@@ -1,4 +1,4 @@
--- Both parts are small, and the number's (Splits). Assumes nothing.
+-- Both parts are small, and they are the number's (Splits). Assumes nothing.
 use Prim.Native.Nat.{_+_, _-_, _^_, _<_}
 use native.Mathlib.Omega.{arith}
 use borrow.Author.Needs.{needs}

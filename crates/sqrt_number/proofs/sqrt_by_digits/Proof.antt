@@ -1,4 +1,4 @@
--- The root of the word, rounded, is the answer (Halves). Assumes nothing.
+-- The root of the radicand, rounded, is the answer (Halves). Assumes nothing.
 use Prim.Native.Nat.{_+_, _*_}
 use mathlib.Core.Path.{_≡_, subst}
 use native.Mathlib.Omega.{arith}
@@ -18,7 +18,7 @@ module _ (c : tie.After-floor-root) where
   abbrev s : tie.Start
   s = t .before
 
-  -- the root is that of the word as the parts make it
+  -- the root is that of the radicand of the parts
   rooted : FloorRoot (pairs (wordOf (s .args .frac) (t .split .result .sig) (t .split .result .up)) (s .args .frac + 2)) (c .floor-root .result .root)
       × (c .floor-root .result .exact ≡ eqb (c .floor-root .result .root * c .floor-root .result .root) (pairs (wordOf (s .args .frac) (t .split .result .sig) (t .split .result .up)) (s .args .frac + 2)))
   rooted =

@@ -1,4 +1,4 @@
--- Every answer is a pattern of 32 bits, so that narrowing keeps it (Rows of root). Assumes nothing.
+-- Every answer is a pattern of 32 bits, so narrowing keeps it (sqrt: Rows). Assumes nothing.
 use native.Mathlib.Omega.{arith}
 use borrow.Author.Needs.{needs}
 use Rattle.fmt_fields.proofs.Widths.{fits32}

@@ -1,4 +1,4 @@
--- What has a root is a number above zero (Asides). Every answer is a pattern of 32 bits, so that narrowing keeps it (Rows). Assumes nothing.
+-- A pattern that has a root is a positive number (Asides). Every answer is a pattern of 32 bits, so narrowing keeps it (Rows). Assumes nothing.
 use mathlib.Core.Path.{sym, _∙_}
 use native.Mathlib.Omega.{arith}
 use borrow.Author.Needs.{needs}

@@ -1,4 +1,4 @@
--- Each way through is a row of the root (Rows). Assumes nothing.
+-- Each branch is a row of sqrt (Rows). Assumes nothing.
 use Prim.Native.Nat.{_%_, _<_}
 use mathlib.Core.Path.{_≡_, sym, ap, _∙_}
 use native.Mathlib.Omega.{arith}

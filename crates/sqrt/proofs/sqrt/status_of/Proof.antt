@@ -1,4 +1,4 @@
--- Each way through is a row of the status (Rows). Assumes nothing.
+-- Each branch is a row of the status (Rows). Assumes nothing.
 use native.Mathlib.Omega.{arith}
 use borrow.Author.Needs.{needs}
 use Rattle.ieee.specs.Format.{Format}

@@ -1,4 +1,4 @@
--- The row's word, and the entry's 16 bits of it (Rule). Assumes nothing.
+-- The row's word, and the entry's 16 bits in it (Rule). Assumes nothing.
 use mathlib.Core.Path.{ap, _∙_}
 use Prim.Native.Nat.{_*_, _/_, _%_, _^_}
 use borrow.Author.Needs.{needs}

@@ -1,4 +1,4 @@
--- No product passes the word, and the factor is not below zero (Steps). Assumes nothing.
+-- Each product fits in the word, and the factor is not negative (Steps). Assumes nothing.
 use native.Mathlib.Omega.{arith}
 use borrow.Author.Needs.{needs}
 use Rattle.sqrt_table.proofs.Steps.{all-safe}

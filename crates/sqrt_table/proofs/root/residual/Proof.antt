@@ -1,4 +1,4 @@
--- The residual is so small that the low words give it (Wholes). Assumes nothing.
+-- The residual is small, so the low words give it (Wholes). Assumes nothing.
 use Prim.Native.Nat.{_*_, _^_}
 use borrow.Author.Needs.{needs}
 use Rattle.sqrt_table.proofs.Wholes.{low-words}
