@@ -1,2 +1,2 @@
--- What the contracts need of the reduction's definition, over the width of the words.
+-- Lemmas on the reduction's definition that the contracts need, over the width of the words.
 pub mod Numbers

@@ -1,4 +1,4 @@
--- The number and the value of the reduction's answer, by what the code tests, over the width of the words. Assumes nothing.
+-- The refusal and the value of the reduction's answer, by the tests of the code, over the width of the words. Assumes nothing.
 use Prim.Native.Nat.{ℕ, _*_, _%_, _^_, _≤_, _<_}
 use mathlib.Core.Path.{_≡_, sym, ap, _∙_}
 use mathlib.Core.Logic.{inl, inr}
@@ -30,7 +30,7 @@ module _ (w x e y : ℕ) where
   pub accepted : y ≤ divisorLimit w → x < 2 * y → e ≤ shiftLimit → 0 ≡ number
   accepted a b h = sym (rules .none .1 ((a, b), h))
 
-  -- where it is done, the limits are kept, and the value is what is left
+  -- where the reduction is done, the limits are kept, and the value is the remainder
   pub within-limits : number ≡ 0 → Fit w x y × (e ≤ shiftLimit)
   within-limits h = rules .none .0 h
 
@@ -40,6 +40,6 @@ module _ (w x e y : ℕ) where
   pub value-refused : 0 < number → 0 ≡ value
   value-refused h = sym (reduction-is w x e y .no-value (λ z. absurd (omega arith)))
 
--- ---- one answer: whatever meets the contract of the one meets that of the other
+-- ---- one answer: whatever meets one contract meets the other
 pub plain-alike : (w x e y a b c d : ℕ) → (a ≡ number w x e y) × (b ≡ value w x e y) → (c ≡ number w x e y) × (d ≡ value w x e y) → (a ≡ c) × (b ≡ d)
 plain-alike w x e y a b c d p q = (p .0 ∙ sym (q .0), p .1 ∙ sym (q .1))

@@ -1,4 +1,4 @@
-// The reduction a bit at a time, which the reducer is proved equal to.
+// The reduction a bit at a time. The reducer is proved equal to it.
 ghost use mathlib.Core.Path.{_≡_};
 ghost use Rattle.ieee.specs.Reduction.{reduceOf};
 ghost use Rattle.ieee.specs.Refusal.{numberOf, valueOf};

@@ -1,9 +1,9 @@
-// What the reduction on 32-bit words refuses.
+// The refusals of the reduction on 32-bit words.
 ghost use mathlib.Core.Path.{_≡_};
 ghost use Rattle.ieee.specs.Reduction.{reduceOf};
 ghost use Rattle.ieee.specs.Refusal.{numberOf};
 
-// In the same order as at 64, for the same reasons.
+// The same tests as at 64 bits, in the same order.
 pub fn refusal32(x: u32, e: u32, y: u32) -> u32
     ensures { λ r. ⌜ r ≡ numberOf (reduceOf 32 x e y) ⌝ }
 {

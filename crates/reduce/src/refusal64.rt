@@ -1,9 +1,9 @@
-// What the reduction on 64-bit words refuses.
+// The refusals of the reduction on 64-bit words.
 ghost use mathlib.Core.Path.{_≡_};
 ghost use Rattle.ieee.specs.Reduction.{reduceOf};
 ghost use Rattle.ieee.specs.Refusal.{numberOf};
 
-// The divisor is tested first, so that twice y cannot wrap. A divisor of 0 is refused by the second test, since no x is below 0.
+// The divisor is tested first, so that twice y cannot wrap. The second test refuses a divisor of 0, since no x is below 0.
 pub fn refusal64(x: u64, e: u32, y: u64) -> u32
     ensures { λ r. ⌜ r ≡ numberOf (reduceOf 64 x e y) ⌝ }
 {

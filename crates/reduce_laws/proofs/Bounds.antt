@@ -1,4 +1,4 @@
--- The reducer's bounds, as plain numbers: s is R / 2, so that R is 2 s and R R / 2 is 2 s s. Assumes nothing.
+-- The reducer's bounds, in plain numbers: s is R / 2, so R is 2 s and R R / 2 is 2 s s. Assumes nothing.
 use Prim.Native.Nat.{ℕ, _+_, _-_, _*_, _/_, _≤_, _<_}
 use mathlib.Core.Path.{_≡_}
 use native.Mathlib.Omega.{arith}
@@ -6,7 +6,7 @@ use native.Mathlib.Nat.{mul-le-mul}
 use Rattle.algebra.proofs.Products.{order, times, times-le, mul-le-cancel, mul-lt-cancel}
 use Rattle.algebra.proofs.Quotients.{div-is}
 
--- what the words hold: x for the divisor n, over s
+-- the state of the words: x for the divisor n, over s
 pub record Kept (s n x q r t : ℕ) : Type 0 where
   pub above : s < 4 * n
   pub below : 2 * n < s
@@ -22,7 +22,7 @@ module _ {s n x q r t : ℕ} (k : Kept s n x q r t) where
       order (2 * s + 1) q (λ h. h)
       (λ h. absurd (omega (arith, k .whole, k .rest, times-le {a = q} {b = 2 * s} (2 * n) (omega arith), times-le (2 * s) (k .below), k .below)))
 
-  -- t stays two words of two below the end of its range
+  -- t stays 2 R + 2 below the end of its range
   pub product-room : t + 4 * s + 2 ≤ 4 * (s * s)
   product-room =
       omega (arith, k .product, k .whole, whole-passes-word, times-le q (k .small))
@@ -31,7 +31,7 @@ module _ {s n x q r t : ℕ} (k : Kept s n x q r t) where
   pub upper-room : (u v : ℕ) → u * (2 * s) + v ≡ t → u + 2 < 2 * s
   upper-room u v e = mul-lt-cancel (u + 2) (2 * s) (2 * s) (omega (arith, product-room, e))
 
-  -- m (u + 2) is x R and something below R
+  -- m (u + 2) is x R plus something below R
   pub upper-gives-held : (u v : ℕ) → u * (2 * s) + v ≡ t → v < 2 * s → 2 * n * (u + 2) / (2 * s) ≡ x
   upper-gives-held u v e l = div-is (2 * n * (u + 2)) (2 * s) x (2 * n * (u + 2) - x * (2 * s)) small-rest (omega (arith, least)) .0
     where

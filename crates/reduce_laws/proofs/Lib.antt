@@ -1,4 +1,4 @@
--- A reducer for the divisor n keeps what is left as a product, over words of any width.
+-- A reducer for the divisor n keeps the remainder as a product, over words of any width.
 pub mod Bounds
 pub mod Only
 pub mod Rounds

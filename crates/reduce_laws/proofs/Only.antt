@@ -1,4 +1,4 @@
--- The reducer's contracts settle the whole answer: two states that meet them are one, and so are two quotients. Assumes nothing.
+-- The reducer's contracts settle the whole answer: two states that meet them are equal, and so are two quotients. Assumes nothing.
 use Prim.Native.Nat.{ℕ, _*_, _/_, _%_}
 use mathlib.Core.Path.{_≡_, sym, ap, _∙_, subst}
 use native.Mathlib.Omega.{arith}

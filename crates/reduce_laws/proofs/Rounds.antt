@@ -1,4 +1,4 @@
--- From step to step: what is left of x, with the quotient kept in the statement. Assumes nothing.
+-- From step to step: the remainder of x, with the quotient kept in the statement. Assumes nothing.
 use Prim.Native.Nat.{ℕ, _+_, _-_, _*_, _/_, _%_, _^_, _≤_, _<_}
 use mathlib.Core.Path.{_≡_, sym, ap, _∙_, subst}
 use native.Mathlib.Omega.{arith}
@@ -55,7 +55,7 @@ after-round {w} {n} {x} {m′ = m′} {r′} {t′} b c d p q = subst (λ i. Aft
 pub after-last : {w n x e l m r t a m′ r′ t′ : ℕ} → 3 ≤ w → l ≤ e → After w n x (e - l) m r t → Stepped w l m r t a m′ r′ t′ → After w n x e m′ r′ t′
 after-last {w} {n} {x} {m′ = m′} {r′} {t′} b d p q = subst (λ i. After w n x i m′ r′ t′) (omega arith) (after-step b p q)
 
--- what is left of what is held is left of x
+-- the remainder of what is held is the remainder of x times 2 ^ i
 pub left-at-last : {n x i h : ℕ} → 0 < n → Left n x i h → h % n ≡ x * 2 ^ i % n
 left-at-last {n} {x} {i} {h} p l =
     let d = div-mod h n p in

@@ -1,4 +1,4 @@
--- A reducer's steps, as plain numbers: s is R / 2, as in Bounds. Assumes nothing.
+-- A reducer's steps, in plain numbers: s is R / 2, as in Bounds. Assumes nothing.
 use Prim.Native.Nat.{ℕ, _+_, _-_, _*_, _/_, _%_, _≤_, _<_}
 use mathlib.Core.Path.{_≡_}
 use native.Mathlib.Omega.{arith}
@@ -7,7 +7,7 @@ use Rattle.algebra.proofs.Products.{times, times-le, diff, mul-le-cancel, mul-l
 use Rattle.algebra.proofs.Quotients.{div-is}
 use Rattle.reduce_laws.proofs.Bounds.{Kept, whole-passes-word, product-room}
 
--- ---- the start: f and r of R (R / 2 - m) = f m + r are q less R, and the same r
+-- ---- the start: R (R / 2 - m) = f m + r, where f is q less R and r is the same
 pub record Started (s n x f r : ℕ) : Type 0 where
   pub whole-is : 2 * (s * s) / (2 * n) ≡ 2 * s + f
   pub rest-is : 2 * (s * s) % (2 * n) ≡ r
@@ -26,7 +26,7 @@ started s n x f r a b l e h = record { whole-is = d .0; rest-is = d .1; kept = k
     k = record { above = a; below = b; small = l; whole = whole; rest = h; product = omega arith }
 
 -- ---- a step
--- a is taken out, and y is held then
+-- a is the quotient, and y is held then
 pub record Next (s n x q r p a b y : ℕ) : Type 0 where
   pub parts : x * p ≡ a * n + y
   pub kept : Kept s n y q r (a * r + b)
@@ -78,7 +78,7 @@ next {s} {n} {x} {q} {r} {t} k p a b e l h = record { parts = parts; kept = kept
     kept : Kept s n y q r (a * r + b)
     kept = record { above = k .above; below = k .below; small = small; whole = k .whole; rest = k .rest; product = product }
 
--- a step by the whole of R / 2: the upper word is taken out, and the lower, which is even, is halved
+-- a step by R / 2: the upper word is the quotient, and the lower, which is even, is halved
 pub record Word (s t u v : ℕ) : Type 0 where
   pub parts : u * (2 * (s * s)) + v / 2 * (2 * s) ≡ t * s
   pub below : v / 2 * (2 * s) < 2 * (s * s)

@@ -1,4 +1,4 @@
--- The reducer over words of w bits: what each of its functions is asked, and gives. Assumes nothing.
+-- The reducer over words of w bits: what each of its functions requires and gives. Assumes nothing.
 use Prim.Native.Nat.{ℕ, _+_, _-_, _*_, _/_, _%_, _^_, _≤_, _<_}
 use mathlib.Core.Path.{_≡_, refl, sym, ap, _∙_, subst}
 use native.Mathlib.Omega.{arith}
@@ -73,7 +73,7 @@ module _ {w : ℕ} (wide : 3 ≤ w) where
         (subst (λ q. Kept s n x q r (2 * x * 2 ^ w + 2 * x * f)) (sym (z .whole-is) ∙ ap (λ i. i / (2 * n)) (sym half-is))
         (subst (Kept s n x (2 * s + f) r) (omega (arith, times (2 * x) word-is)) (z .kept)))
 
-    -- the product in two words, of which the upper one has room
+    -- the product in two words, the upper with room
     start-words : (2 * x + 2 * x * f / 2 ^ w) * 2 ^ w + 2 * x * f % 2 ^ w ≡ 2 * x * 2 ^ w + 2 * x * f
     start-words = omega (arith, div-mod (2 * x * f) (2 ^ w) (pow-pos w))
 
@@ -120,7 +120,7 @@ module _ {w : ℕ} (wide : 3 ≤ w) where
         y-is : heldOf w m (a * r + b) ≡ heldOf w m t * 2 ^ i - a * (m / 2)
         y-is = held-is g
 
-    -- ---- `shift_reduce`: the number is cut where 2 ^ i will bring it past R R / 2
+    -- ---- `shift_reduce`: the number is split where 2 ^ i takes it past R R / 2
     module _ (i b : ℕ) (l : i < w) (c : b ≡ t % 2 ^ (2 * w - 1 - i) * 2 ^ i) where
       cut : half w ≡ 2 ^ (2 * w - 1 - i) * 2 ^ i
       unfolding half
@@ -144,7 +144,7 @@ module _ {w : ℕ} (wide : 3 ≤ w) where
       pub shift-holds : Stepped w i m r t (t / 2 ^ (2 * w - 1 - i)) m r (t / 2 ^ (2 * w - 1 - i) * r + b)
       shift-holds = step-holds i (t / 2 ^ (2 * w - 1 - i)) b l shift-parts shift-lower
 
-    -- ---- `word_reduce`: the upper word is taken out, and the lower halved
+    -- ---- `word_reduce`: the upper word is the quotient, and the lower is halved
     module _ (u v : ℕ) (e : u * 2 ^ w + v ≡ t) (l : v < 2 ^ w) where
       halved : Word s t u v
       halved = word-step k u v (omega (arith, e, times u word-is)) (omega (arith, l, word-is))
@@ -158,7 +158,7 @@ module _ {w : ℕ} (wide : 3 ≤ w) where
       pub word-holds : Stepped w (w - 1) m r t u m r (u * r + v / 2 * 2 ^ w)
       word-holds = step-holds (w - 1) u (v / 2 * 2 ^ w) (omega arith) (word-parts .0) (word-parts .1)
 
-      -- the number in two words, of which the upper one has room
+      -- the number in two words, the upper with room
       words : (u * r / 2 ^ w + v / 2) * 2 ^ w + u * r % 2 ^ w ≡ u * r + v / 2 * 2 ^ w
       words = omega (arith, div-mod (u * r) (2 ^ w) (pow-pos w))
 
@@ -168,7 +168,7 @@ module _ {w : ℕ} (wide : 3 ≤ w) where
       pub word-holds-words : Stepped w (w - 1) m r t u m r ((u * r / 2 ^ w + v / 2) * 2 ^ w + u * r % 2 ^ w)
       word-holds-words = subst (Stepped w (w - 1) m r t u m r) (sym words) word-holds
 
-  -- a cut of two words falls into the upper one
+  -- two words are split within the upper one
   pub cut-in-upper : (i u v : ℕ) → i < w → v < 2 ^ w → ((u * 2 ^ w + v) / 2 ^ (2 * w - 1 - i) ≡ u / 2 ^ (w - 1 - i)) × ((u * 2 ^ w + v) % 2 ^ (2 * w - 1 - i) ≡ u % 2 ^ (w - 1 - i) * 2 ^ w + v)
   cut-in-upper i u v l o =
       let p : 2 ^ (2 * w - 1 - i) ≡ 2 ^ (w - 1 - i) * 2 ^ w = ap (λ j. 2 ^ j) (omega arith) ∙ pow-add 2 (w - 1 - i) w in

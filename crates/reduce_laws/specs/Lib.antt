@@ -1,2 +1,2 @@
--- What the contracts of the reducers cite, over the width of their words.
+-- Definitions for the contracts of the reducers, over the width of their words.
 pub mod Reducer

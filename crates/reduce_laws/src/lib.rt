@@ -1,1 +1,1 @@
-// What a reducer holds and how its steps go, over the width of the words, and no function.
+// Laws of the reducer's state and steps, over the width of the words: definitions and lemmas, no function.

@@ -1,9 +1,9 @@
--- What a reducer of 32-bit words holds (reducing: Reducer). Assumes nothing.
+-- The state of a reducer of 32-bit words (reduce_laws: Reducer). Assumes nothing.
 use Prim.Native.Nat.{ℕ}
 use Rattle.reduce_laws.specs.Reducer.{Holds, heldOf, Reduces, Stepped}
 use Rattle.reduce_modular.specs.declared.reducer32.Reducer32.{Reducer32}
 
--- x, for the divisor n
+-- holds x, for the divisor n
 abbrev pub Holds32 : ℕ → ℕ → Reducer32 → Type 0
 Holds32 n x s = Holds 32 n x (s .m) (s .r) (s .product)
 

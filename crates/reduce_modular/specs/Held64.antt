@@ -1,10 +1,10 @@
--- What a reducer of 64-bit words holds (reducing: Reducer). Assumes nothing.
+-- The state of a reducer of 64-bit words (reduce_laws: Reducer). Assumes nothing.
 use Prim.Native.Nat.{ℕ}
 use Rattle.word_wide.specs.Value.{value}
 use Rattle.reduce_laws.specs.Reducer.{Holds, heldOf, Reduces, Stepped}
 use Rattle.reduce_modular.specs.declared.reducer64.Reducer64.{Reducer64}
 
--- x, for the divisor n
+-- holds x, for the divisor n
 abbrev pub Holds64 : ℕ → ℕ → Reducer64 → Type 0
 Holds64 n x s = Holds 64 n x (s .m) (s .r) (value (s .product))
 

@@ -1,11 +1,11 @@
-// The reduction, x times 2^e modulo y, on 64-bit words: 63 bits of the shift with each step of the reducer.
+// The reduction, x times 2^e modulo y, on 64-bit words: each step of the reducer takes 63 bits of the shift.
 ghost use mathlib.Core.Path.{_≡_};
 ghost use Prim.Native.Nat.{_+_, _*_, _%_, _≤_, _<_, _^_};
 ghost use Rattle.reduce_laws.specs.Reducer.{Power};
 use crate::reducer64::Reducer64;
 use reduce_stepwise::subtract_once;
 
-// By a power of two: the low bits of what is shifted, and none where they are all shifted out.
+// By a power of two: the low bits of x times 2^e, or 0 where they are all shifted out.
 pub fn by_power64(x: u64, e: u32, y: u64) -> u64
     requires { ⌜ Power y ⌝ }
     ensures { λ r. ⌜ r ≡ x * 2 ^ e % y ⌝ }
@@ -16,7 +16,7 @@ pub fn by_power64(x: u64, e: u32, y: u64) -> u64
     (x << e) & (y - 1)
 }
 
-// By an n that the reducer takes: two leading zeros, and no power of two.
+// By an n that the reducer accepts: two leading zeros, not a power of two.
 pub fn by_words64(x: u64, e: u32, n: u64) -> u64
     requires { ⌜ (2 ^ 61 < n) × (n < 2 ^ 62) × (x < 2 * n) ⌝ }
     ensures { λ r. ⌜ r ≡ x * 2 ^ e % n ⌝ }
@@ -33,7 +33,7 @@ pub fn by_words64(x: u64, e: u32, n: u64) -> u64
     subtract_once(r, n)
 }
 
-// The divisor is scaled until it has two leading zeros, and the shift grows by as much; what is left is then scaled back.
+// The divisor is scaled until it has two leading zeros, and the shift grows by as much; the remainder is then scaled back.
 pub fn linear_mul_reduction64(x: u64, e: u32, y: u64) -> u64
     requires { ⌜ (x < 2 * y) × (y < 2 ^ 62) × (e ≤ 4096) ⌝ }
     ensures { λ r. ⌜ r ≡ x * 2 ^ e % y ⌝ }

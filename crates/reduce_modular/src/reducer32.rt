@@ -1,24 +1,24 @@
-// The reducer on words of 32 bits: as the one on 64, where a number of two words is one of 64 bits.
+// The reducer on words of 32 bits: as on 64, with a two-word number in one u64.
 ghost use mathlib.Core.Path.{_≡_};
 ghost use Prim.Native.Nat.{_+_, _*_, _<_, _^_};
 ghost use Rattle.reduce_modular.specs.Held32.{Holds32, held, Reduces32, Stepped32};
 use word_bits::low_bits;
 
-// For the divisor n: m is 2n, and with R = 2^32 and RR/2 = qm + r the remainder x is kept as 2xq. The quotient q serves the start alone.
+// For the divisor n: m is 2n, and with R = 2^32 and RR/2 = qm + r the remainder x is kept as 2xq. Only `new` needs q itself.
 pub struct Reducer32 {
     pub m: u32,
     pub r: u32,
     pub product: u64,
 }
 
-// The state after a step, and the quotient that the step took out.
+// The state after a step, and the quotient of the step.
 pub struct Step32 {
     pub state: Reducer32,
     pub quotient: u32,
 }
 
 impl Reducer32 {
-    // q has one bit more than a word. Its other bits, f = q - R, and r come of one division, R(R/2 - m) by m.
+    // q has one bit more than a word. One division, R(R/2 - m) by m, gives its other bits, f = q - R, and r.
     pub fn new(x: u32, n: u32) -> Reducer32
         requires { ⌜ (2 ^ 29 < n) × (n < 2 ^ 30) × (x < 2 * n) ⌝ }
         ensures { λ s. ⌜ Holds32 n x s ⌝ }
@@ -34,7 +34,7 @@ impl Reducer32 {
         }
     }
 
-    // The remainder so far, below 2n. With u the upper word, m(u + 2) is xR and something below R.
+    // The remainder so far, below 2n. With u the upper word, m(u + 2) is xR plus something below R.
     pub fn partial_remainder(self) -> u32
         requires { ⌜ Reduces32 self ⌝ }
         ensures { λ r. ⌜ r ≡ held self ⌝ }
@@ -43,7 +43,7 @@ impl Reducer32 {
         (((self.m as u64) * (u + 2)) >> 32) as u32
     }
 
-    // The remainder times 2^k, less the quotient times n. What of 2xq 2^k passes RR/2 is the quotient a; each RR/2 leaves r.
+    // The remainder times 2^k, less the quotient times n. 2xq 2^k by RR/2 gives the quotient a; each RR/2 leaves r.
     pub fn shift_reduce(self, k: u32) -> Step32
         requires { ⌜ Reduces32 self × (k < 32) ⌝ }
         ensures { λ s. ⌜ Stepped32 k self (s .quotient) (s .state) ⌝ }
@@ -60,7 +60,7 @@ impl Reducer32 {
         }
     }
 
-    // The same for k = 31, where the quotient is the upper word, and what is below RR/2 is half the lower word, which is even.
+    // The same for k = 31: the quotient is the upper word, and the part below RR/2 is half the lower word, which is even.
     pub fn word_reduce(self) -> Step32
         requires { ⌜ Reduces32 self ⌝ }
         ensures { λ s. ⌜ Stepped32 31 self (s .quotient) (s .state) ⌝ }

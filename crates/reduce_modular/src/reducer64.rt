@@ -1,4 +1,4 @@
-// The reducer on words of 64 bits: what is left of x times 2^k for the divisor n, k below 64, with two products and no division.
+// The reducer on words of 64 bits: the remainder of x times 2^k by n, for k below 64, with two products and no division.
 ghost use mathlib.Core.Path.{_≡_};
 ghost use Prim.Native.Nat.{_+_, _*_, _<_, _^_};
 ghost use Rattle.reduce_modular.specs.Held64.{Holds64, held, Reduces64, Stepped64};
@@ -11,21 +11,21 @@ use word_wide::product::mul_lo;
 use word_wide::shift::shl;
 use word_wide::sum::add;
 
-// For the divisor n: m is 2n, and with R = 2^64 and RR/2 = qm + r the remainder x is kept as 2xq. The quotient q serves the start alone.
+// For the divisor n: m is 2n, and with R = 2^64 and RR/2 = qm + r the remainder x is kept as 2xq. Only `new` needs q itself.
 pub struct Reducer64 {
     pub m: u64,
     pub r: u64,
     pub product: Wide,
 }
 
-// The state after a step, and the quotient that the step took out.
+// The state after a step, and the quotient of the step.
 pub struct Step64 {
     pub state: Reducer64,
     pub quotient: u64,
 }
 
 impl Reducer64 {
-    // q has one bit more than a word. Its other bits, f = q - R, and r come of one division, R(R/2 - m) by m.
+    // q has one bit more than a word. One division, R(R/2 - m) by m, gives its other bits, f = q - R, and r.
     pub fn new(x: u64, n: u64) -> Reducer64
         requires { ⌜ (2 ^ 61 < n) × (n < 2 ^ 62) × (x < 2 * n) ⌝ }
         ensures { λ s. ⌜ Holds64 n x s ⌝ }
@@ -49,7 +49,7 @@ impl Reducer64 {
         }
     }
 
-    // The remainder so far, below 2n. With u the upper word, m(u + 2) is xR and something below R.
+    // The remainder so far, below 2n. With u the upper word, m(u + 2) is xR plus something below R.
     pub fn partial_remainder(self) -> u64
         requires { ⌜ Reduces64 self ⌝ }
         ensures { λ r. ⌜ r ≡ held self ⌝ }
@@ -57,7 +57,7 @@ impl Reducer64 {
         mul_hi(self.m, self.product.hi + 2)
     }
 
-    // The remainder times 2^k, less the quotient times n. What of 2xq 2^k passes RR/2 is the quotient a; each RR/2 leaves r.
+    // The remainder times 2^k, less the quotient times n. 2xq 2^k by RR/2 gives the quotient a; each RR/2 leaves r.
     pub fn shift_reduce(self, k: u32) -> Step64
         requires { ⌜ Reduces64 self × (k < 64) ⌝ }
         ensures { λ s. ⌜ Stepped64 k self (s .quotient) (s .state) ⌝ }
@@ -80,7 +80,7 @@ impl Reducer64 {
         }
     }
 
-    // The same for k = 63, where the quotient is the upper word, and what is below RR/2 is half the lower word, which is even.
+    // The same for k = 63: the quotient is the upper word, and the part below RR/2 is half the lower word, which is even.
     pub fn word_reduce(self) -> Step64
         requires { ⌜ Reduces64 self ⌝ }
         ensures { λ s. ⌜ Stepped64 63 self (s .quotient) (s .state) ⌝ }

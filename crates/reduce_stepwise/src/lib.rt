@@ -1,8 +1,8 @@
-// The plain reduction, x times 2^e modulo y, a bit at a time: what the quick one is proved equal to.
+// The plain reduction, x times 2^e modulo y, a bit at a time, to which the fast one is proved equal.
 ghost use mathlib.Core.Path.{_≡_};
 ghost use Prim.Native.Nat.{_*_, _%_, _<_, _^_};
 
-// What is left of x below twice y: y is taken away once, or not at all.
+// x modulo y, for x below twice y: subtracts y once or not at all.
 pub fn subtract_once(x: u64, y: u64) -> u64
     requires { ⌜ x < 2 * y ⌝ }
     ensures { λ r. ⌜ r ≡ x % y ⌝ }
@@ -10,7 +10,7 @@ pub fn subtract_once(x: u64, y: u64) -> u64
     if x < y { x } else { x - y }
 }
 
-// What is carried is below twice y, so that a doubling wraps for no y that leaves two bits free.
+// The carried remainder is below twice y, so a doubling wraps for no y that leaves two bits free.
 pub fn reduce_stepwise64(x: u64, e: u32, y: u64) -> u64
     requires { ⌜ (x < 2 * y) × (y < 2 ^ 62) ⌝ }
     ensures { λ r. ⌜ r ≡ x * 2 ^ e % y ⌝ }

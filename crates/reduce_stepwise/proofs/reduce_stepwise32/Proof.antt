@@ -1,4 +1,4 @@
--- `reduce_stepwise::reduce_stepwise32` meets its contract: what is left is below y, so that it fits. Assumes nothing.
+-- `reduce_stepwise::reduce_stepwise32` meets its contract: the remainder is below y, so it fits. Assumes nothing.
 use native.Mathlib.Nat.{mod-lt}
 use Prim.Native.Nat.{_*_, _^_}
 use native.Mathlib.Omega.{arith}

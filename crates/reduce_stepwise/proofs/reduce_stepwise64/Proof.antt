@@ -1,4 +1,4 @@
--- `reduce_stepwise::reduce_stepwise64` meets its contract: what is carried is left of x times 2^i, and below twice y (Doublings). Assumes nothing.
+-- `reduce_stepwise::reduce_stepwise64` meets its contract: the carried number has the remainder of x times 2^i, and is below twice y (Doublings). Assumes nothing.
 use mathlib.Core.Path.{_≡_, ap, _∙_}
 use Prim.Native.Nat.{_*_, _-_, _%_, _^_, _≤_, _<_}
 use native.Mathlib.Nat.{mod-lt}
@@ -26,7 +26,7 @@ loop-holds c = (ap (λ t. t % c .args .y) (omega arith), c .pre .0, omega arith)
 subtract-once-requires : tie.Need-subtract-once-requires Inv-loop μ-loop
 subtract-once-requires c κs = omega arith
 
--- what is left is below y
+-- the remainder is below y
 below : (c : tie.After-subtract-once Inv-loop μ-loop) → c .subtract-once .result < c .before .before .before .args .y
 below c =
     let l = c .before .before in

@@ -1,4 +1,4 @@
--- `reduce_stepwise::subtract_once` meets its contract: below twice y, y goes once or not at all (Doublings). Assumes nothing.
+-- `reduce_stepwise::subtract_once` meets its contract: below twice y, y is subtracted once or not at all (Doublings). Assumes nothing.
 use native.Mathlib.Omega.{arith}
 use Rattle.reduce_stepwise.proofs.Doublings.{left-as-it-is, left-taken-once}
 use Rattle.reduce_stepwise.proofs.subtract_once.Statement.{statement}

@@ -1,4 +1,4 @@
--- `reduce::reduce::reduce32` meets its contract: the number decides whether there is a value (refusals: Numbers). Assumes nothing.
+-- `reduce::reduce::reduce32` meets its contract: the refusal decides whether there is a value (Numbers). Assumes nothing.
 use mathlib.Core.Path.{_∙_}
 use native.Mathlib.Omega.{arith}
 use borrow.Author.Needs.{needs}

@@ -1,4 +1,4 @@
--- `reduce_modular::modular32::by_power32` meets its contract: the bits below a power of two (reducing: Scales). Assumes nothing.
+-- `reduce_modular::modular32::by_power32` meets its contract: the bits below a power of two (reduce_laws: Scales). Assumes nothing.
 use native.Mathlib.Omega.{arith}
 use borrow.Author.Needs.{needs}
 use Rattle.reduce_laws.proofs.Scales.{power-some, power-leaves-low-bits, power-leaves-nothing}

@@ -1,4 +1,4 @@
--- `reduce_modular::modular64::by_words64` meets its contract: what the reducer holds is left of x times the part of 2^e that is done (reducing: Rounds). Assumes nothing.
+-- `reduce_modular::modular64::by_words64` meets its contract: the reducer holds the remainder of x times the part of 2^e that is done (reduce_laws: Rounds). Assumes nothing.
 use mathlib.Core.Path.{ap, _∙_, subst}
 use Prim.Native.Nat.{ℕ, _-_, _%_, _≤_}
 use native.Mathlib.Omega.{arith}
@@ -18,7 +18,7 @@ Inv-loop x e n state₀ left₀ state left = At n x (e - left) state × (left �
 abbrev μ-loop : tie.MeasureT-loop
 μ-loop x e n state₀ left₀ state left = left
 
--- after the last step, by what was left of the shift
+-- after the last step, by the rest of the shift
 last : (c : tie.After-shift-reduce Inv-loop μ-loop) → let s = c .before .before .before .before in At (s .args .n) (s .args .x) (s .args .e) (c .shift-reduce .result .state)
 last c = let l = c .before .before in after-last (omega arith) (l .loop .inv .1) (l .loop .inv .0) (c .shift-reduce .ensures)
 

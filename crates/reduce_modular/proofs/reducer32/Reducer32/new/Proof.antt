@@ -1,4 +1,4 @@
--- `reduce_modular::reducer32::Reducer32::new` meets its contract: one division gives what the reducer needs (reducing: Widths). Assumes nothing.
+-- `reduce_modular::reducer32::Reducer32::new` meets its contract: one division gives what the reducer needs (reduce_laws: Widths). Assumes nothing.
 use mathlib.Core.Path.{_≡_}
 use Prim.Native.Nat.{ℕ, _+_, _-_, _*_, _/_, _%_, _^_, _<_}
 use native.Mathlib.Omega.{arith}

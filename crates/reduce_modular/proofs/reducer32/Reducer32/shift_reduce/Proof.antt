@@ -1,4 +1,4 @@
--- `reduce_modular::reducer32::Reducer32::shift_reduce` meets its contract (reducing: Widths). Assumes nothing.
+-- `reduce_modular::reducer32::Reducer32::shift_reduce` meets its contract (reduce_laws: Widths). Assumes nothing.
 use mathlib.Core.Path.{_≡_, refl, ap, _∙_}
 use Prim.Native.Nat.{ℕ, _+_, _-_, _*_, _/_, _%_, _^_, _<_}
 use native.Mathlib.Nat.{mod-eq-of-lt}
@@ -18,7 +18,7 @@ module _ (c : tie.After-low-bits) where
   abbrev k : ℕ
   k = s .args .k
 
-  -- what is not cut off loses no bit
+  -- the lower part loses no bit
   stays : c .low-bits .result * 2 ^ k % 2 ^ 64 ≡ t % 2 ^ (63 - k) * 2 ^ k
   stays = ap (λ h. h * 2 ^ k % 2 ^ 64) (c .low-bits .ensures) ∙ mod-eq-of-lt (shift-fits {w = 32} (omega arith) (s .pre .0) k _ (s .pre .1) refl)
 

@@ -1,4 +1,4 @@
--- `reduce_modular::reducer64::Reducer64::new` meets its contract: one division gives what the reducer needs (reducing: Widths). Assumes nothing.
+-- `reduce_modular::reducer64::Reducer64::new` meets its contract: one division gives what the reducer needs (reduce_laws: Widths). Assumes nothing.
 use mathlib.Core.Path.{_≡_, sym, ap₂, _∙_, subst}
 use Prim.Native.Nat.{_+_, _-_, _*_, _^_, _<_}
 use native.Mathlib.Nat.{add-zero}
@@ -9,7 +9,7 @@ use Rattle.reduce_laws.proofs.Widths.{start-upper, start-holds-words}
 use Rattle.reduce_modular.proofs.reducer64.Reducer64.new.Statement.{statement}
 use Rattle.reduce_modular.proofs.reducer64.Reducer64.new.Tie as tie
 
--- what the division gives
+-- the result of the division
 quotient-is : (c : tie.After-div) → let n = c .before .args .n in c .div .result .quotient * (2 * n) + c .div .result .remainder ≡ (2 ^ 63 - 2 * n) * 2 ^ 64
 quotient-is c = c .div .ensures .0 ∙ add-zero _
 

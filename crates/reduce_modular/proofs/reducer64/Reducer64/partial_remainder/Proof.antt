@@ -1,4 +1,4 @@
--- `reduce_modular::reducer64::Reducer64::partial_remainder` meets its contract (reducing: Widths). Assumes nothing.
+-- `reduce_modular::reducer64::Reducer64::partial_remainder` meets its contract (reduce_laws: Widths). Assumes nothing.
 use mathlib.Core.Path.{refl, _∙_}
 use native.Mathlib.Omega.{arith}
 use borrow.Author.Needs.{needs}

@@ -1,4 +1,4 @@
--- `reduce_modular::reducer64::Reducer64::shift_reduce` meets its contract: the cut falls into the upper word (reducing: Widths). Assumes nothing.
+-- `reduce_modular::reducer64::Reducer64::shift_reduce` meets its contract: the number is split within its upper word (reduce_laws: Widths). Assumes nothing.
 use mathlib.Core.Path.{_≡_, refl, sym, ap, _∙_, subst}
 use Prim.Native.Nat.{_+_, _-_, _*_, _/_, _%_, _^_, _<_}
 use native.Mathlib.Omega.{arith}
@@ -9,12 +9,12 @@ use Rattle.reduce_laws.proofs.Widths.{cut-in-upper, shift-fits, shift-room, shi
 use Rattle.reduce_modular.proofs.reducer64.Reducer64.shift_reduce.Statement.{statement}
 use Rattle.reduce_modular.proofs.reducer64.Reducer64.shift_reduce.Tie as tie
 
--- what is cut off, and what stays
+-- the upper part and the lower
 cut : (c : tie.After-struct-known) → let p = c .before .args .self .product in let k = c .before .args .k in
     (value p / 2 ^ (127 - k) ≡ p .hi / 2 ^ (63 - k)) × (value p % 2 ^ (127 - k) ≡ p .hi % 2 ^ (63 - k) * 2 ^ 64 + p .lo)
 cut c = let p = c .before .args .self .product in cut-in-upper {w = 64} (omega arith) (c .before .args .k) (p .hi) (p .lo) (c .before .pre .1) (c .struct-known .given .1 .1 .0 .1 .0 .fits)
 
--- what stays, times 2 ^ k
+-- the lower part, times 2 ^ k
 stays : (c : tie.After-shl) → let a = c .before .before .before .args in value (c .shl .result) ≡ value (a .self .product) % 2 ^ (127 - a .k) * 2 ^ a .k
 stays c =
     let a = c .before .before .before .args in

@@ -1,4 +1,4 @@
--- `reduce_modular::reducer64::Reducer64::word_reduce` meets its contract (reducing: Widths). Assumes nothing.
+-- `reduce_modular::reducer64::Reducer64::word_reduce` meets its contract (reduce_laws: Widths). Assumes nothing.
 use mathlib.Core.Path.{refl, sym, ap₂, subst}
 use Prim.Native.Nat.{_+_, _*_, _/_, _^_, _<_}
 use native.Mathlib.Omega.{arith}
