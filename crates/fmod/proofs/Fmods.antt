@@ -22,20 +22,20 @@ use Rattle.fmt_decode.specs.Rows.{noRemainder}
 use Rattle.fmt_fields.proofs.Numbers.{infinity-some}
 use Rattle.fmt_decode.proofs.Sorts.{no-remainder-none, Remains, remains}
 
--- a common factor of two numbers is one of the remainder
+-- a common factor of two numbers is a factor of the remainder
 scaled-left : (a b t : ℕ) → 0 < b → 0 < t → left (a * t) (b * t) ≡ (a % b) * t
 scaled-left a b t p q =
     let (d, l) = div-mod a b p in
     omega (arith, times t d, times (b * t) (div-is (a * t) (b * t) (a / b) (a % b * t) (omega (arith, times-le t l)) (omega (arith, times t d)) .0))
 
--- q, what is left of the significand of x, goes up by n to what is left of x
+-- q, the remainder of the significands, shifted left by n is the remainder of x by y
 pub record Finishes (f : Format) (x y n q : ℕ) : Type 0 where
   pub few : q < 2 ^ (f .frac + 1)
   pub fits : q * 2 ^ n < units f (inf f)
   pub is : signed f (minus f x) (exactly f (q * 2 ^ n)) ≡ fmodOf f x y
   pub pattern : Pattern f (signed f (minus f x) (exactly f (q * 2 ^ n)))
 
--- two numbers taken apart, a significand and an exponent each, to be reduced
+-- two numbers unpacked to be reduced, each a significand and an exponent
 pub record Reduces (f : Format) (x y ex sx ey sy : ℕ) : Type 0 where
   pub ordered : ey ≤ ex
   pub reach : ex < 2 ^ f .expo
@@ -55,7 +55,7 @@ module _ (f : Format) (x y : ℕ) where
         (λ h. sym (fmod-rows f .below-y x y (units f (magnitude f x)) (units f (magnitude f y)) p (kind-finite f x (r .below)) (kind-finite f y h) (units-lt f l)))
         (λ h. sym (fmod-rows f .infinite-y x y (units f (magnitude f x)) (kind-finite f x (r .below)) (kind-infinite f y (both-ways (magnitude f y) (inf f) (r .most) (omega arith)))))
 
-    -- the significands and exponents of both, where x is not less than y
+    -- the significands and exponents of both, where x is at least y
     module _ (g : magnitude f y ≤ magnitude f x) where
       abbrev sx : ℕ
       sx = significand f (magnitude f x)
@@ -118,7 +118,7 @@ module _ (f : Format) (x y : ℕ) where
             finishes = finishes-left;
           }
 
--- ---- by what the code knows
+-- ---- by the tests of the code
 module _ {p e : ℕ} (w : Fits p e) (x y : ℕ) (has : noRemainder (format p e) x y ≡ false) where
   pub lesser-stays : Pattern (format p e) x → magnitude (format p e) x < magnitude (format p e) y → x ≡ fmodOf (format p e) x y
   lesser-stays h l = fmod-lesser (format p e) x y (infinity-some w) (remains (format p e) (infinity-some w) x y has) h l

@@ -1,4 +1,4 @@
--- x times 2 ^ e modulo y, by what is left of x, and the quotient where x is below twice y. Assumes nothing.
+-- x times 2 ^ e modulo y by x modulo y, and the quotient where x is below twice y. Assumes nothing.
 use Prim.Native.Nat.{ℕ, suc, _+_, _*_, _/_, _%_, _^_, _≤_, _<_}
 use mathlib.Core.Path.{_≡_, sym, ap, _∙_}
 use mathlib.Core.Bool.{cond}
@@ -10,7 +10,7 @@ use borrow.Author.Tests.{le-leb, lt-leb}
 use Rattle.algebra.proofs.Products.{order, times, times-le, mul-lt-cancel}
 use Rattle.algebra.proofs.Quotients.{mod-is, mod-scale}
 
--- what is left of x, or x itself, is below twice y and has the same remainders
+-- x, or x modulo y, is below twice y and has the same remainders
 pub near-is : (x y : ℕ) → 0 < y → (r : ℕ) → r ≡ cond (leb (2 * y) x) (x % y) x → (r < 2 * y) × ((e : ℕ) → r * 2 ^ e % y ≡ x * 2 ^ e % y)
 near-is x y p r h =
     order (2 * y) x
@@ -21,7 +21,7 @@ near-is x y p r h =
     let k : r ≡ x = h ∙ ap (λ b. cond b (x % y) x) (lt-leb (2 * y) x l) in
     (omega arith, λ e. ap (λ t. t * 2 ^ e % y) k))
 
--- the quotient is below 2 ^ w where e is
+-- the quotient is below 2 ^ w for e below w
 pub quotient-fits : (w x e y : ℕ) → x < 2 * y → e < w → x * 2 ^ e < y * 2 ^ w
 quotient-fits w x e y l h =
     let t : 2 ^ e * 2 ≤ 2 ^ w = omega (arith, two-pow-succ e, pow-mono {i = suc e} {j = w} h) in
@@ -34,6 +34,6 @@ quotient-below w x e y l h = mul-lt-cancel (x * 2 ^ e / y) (2 ^ w) y (omega (ari
 pub upper-below : (w x e y : ℕ) → x < 2 * y → e < w → x * 2 ^ e / 2 ^ w < y
 upper-below w x e y l h = mul-lt-cancel (x * 2 ^ e / 2 ^ w) y (2 ^ w) (omega (arith, quotient-fits w x e y l h, div-add-mod' (x * 2 ^ e) (2 ^ w)))
 
--- two words to the base B that are a number N are divided as N is
+-- two words in base B that make up a number N are divided as N is
 pub words-leave : (B N y h l q r : ℕ) → h ≡ N / B → l ≡ N % B → q * y + r ≡ h * B + l → r < y → r ≡ N % y
 words-leave B N y h l q r a b e g = sym (mod-is N y q r g (omega (arith, times B a, div-add-mod' N B)))

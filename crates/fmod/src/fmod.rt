@@ -1,4 +1,4 @@
-// fmod: what is left of x after whole multiples of y are taken away, with the sign of x, exactly.
+// fmod: the remainder of x by y, toward zero, with the sign of x; always exact.
 ghost use mathlib.Core.Path.{_≡_};
 ghost use Prim.Native.Nat.{_+_, _*_, _<_, _^_};
 ghost use Rattle.ieee.specs.Format.{b64, b32, units, inf};
@@ -14,7 +14,7 @@ use fmt_decode::remainder::has_no_remainder;
 use fmt_fields::is_negative;
 use fmt_fields::with_sign;
 
-// left times 2^up smallest units, with the sign of x: a zero has it too.
+// left times 2^up smallest units, with the sign of x. A zero has that sign too.
 pub fn finish(frac: u32, expo: u32, x: u64, left: u64, up: u32) -> u64
     requires { ⌜ Fits frac expo × (left < 2 ^ (frac + 1)) × (up < 2 ^ expo) × (left * 2 ^ up < units (format frac expo) (inf (format frac expo))) ⌝ }
     ensures { λ r. ⌜ r ≡ signed (format frac expo) (minus (format frac expo) x) (exactly (format frac expo) (left * 2 ^ up)) ⌝ }
@@ -23,8 +23,8 @@ pub fn finish(frac: u32, expo: u32, x: u64, left: u64, up: u32) -> u64
     with_sign(frac, expo, is_negative(frac, expo, x), m)
 }
 
-// Magnitudes compare as their patterns do, so that a lesser x, and every x where y is infinite, is found by one comparison.
-// Else both are taken apart, and the exponent of y waits until the significands are reduced.
+// Magnitudes compare as the numbers that they stand for, so one comparison finds an x below y, and every x where y is infinite.
+// Otherwise both are unpacked, the significands are reduced, and the exponent of y is added at the end.
 pub fn fmod64(x: u64, y: u64) -> u64
     ensures { λ r. ⌜ r ≡ fmodOf b64 x y ⌝ }
 {

@@ -1,3 +1,3 @@
-// fmod: what is left of x after whole multiples of y are taken away.
+// fmod: the remainder of x by y, toward zero.
 pub mod fmod;
 pub mod routes;

@@ -1,4 +1,4 @@
-// x times 2^e modulo y, for significands x and y: the route is chosen by e.
+// x times 2^e modulo y, for significands x and y, by one of three routes according to e.
 ghost use mathlib.Core.Path.{_≡_};
 ghost use mathlib.Core.Bool.{cond};
 ghost use Prim.Native.Nat.{_*_, _/_, _%_, _≤_, _<_, _^_};
@@ -10,7 +10,7 @@ use word_bits::shl_carry;
 use word_division::division::div;
 use word_wide::Wide;
 
-// x as it is where it is below twice y, as the routes ask, and else what y leaves of it, which happens for subnormal y alone.
+// x itself where it is below twice y, as the routes require, otherwise x modulo y. Only a subnormal y needs that.
 fn reduce_below_twice(x: u64, y: u64) -> u64
     requires { ⌜ (0 < y) × (y < 2 ^ 62) ⌝ }
     ensures { λ r. ⌜ r ≡ cond (leb (2 * y) x) (x % y) x ⌝ }
@@ -21,7 +21,7 @@ fn reduce_below_twice(x: u64, y: u64) -> u64
     x
 }
 
-// One division. x is below twice y and e below the bits of a word, so that the quotient is one word.
+// One division. x is below twice y and e below the bits of a word, so the quotient is one word.
 pub fn by_division64(x: u64, e: u32, y: u64) -> u64
     requires { ⌜ (x < 2 * y) × (e < 64) ⌝ }
     ensures { λ r. ⌜ r ≡ x * 2 ^ e % y ⌝ }
@@ -34,7 +34,7 @@ pub fn by_division64(x: u64, e: u32, y: u64) -> u64
     d.remainder
 }
 
-// The same of words of 32 bits, by the machine's own division: the quotient is below 2^32.
+// The same for 32-bit words, by the machine's division: the quotient is below 2^32.
 pub fn by_division32(x: u32, e: u32, y: u32) -> u32
     requires { ⌜ (x < 2 * y) × (e < 32) ⌝ }
     ensures { λ r. ⌜ (r ≡ x * 2 ^ e % y) × (x * 2 ^ e / y < 2 ^ 32) ⌝ }
@@ -43,7 +43,7 @@ pub fn by_division32(x: u32, e: u32, y: u32) -> u32
     (wide % y as u64) as u32
 }
 
-// A step for each bit of a short shift, one division for a longer one, and from a word on the reducer.
+// A step for each bit of a short shift, one division for a longer one, and the reducer for a shift of a word or more.
 pub fn reduction64(x: u64, e: u32, y: u64) -> u64
     requires { ⌜ (0 < y) × (y < 2 ^ 62) × (e ≤ 4096) ⌝ }
     ensures { λ r. ⌜ r ≡ x * 2 ^ e % y ⌝ }
@@ -58,7 +58,7 @@ pub fn reduction64(x: u64, e: u32, y: u64) -> u64
     linear_mul_reduction64(near, e, y)
 }
 
-// Here the division is the machine's own, and no shift is too short for it.
+// Here the division is the machine's own, and serves the short shifts too.
 pub fn reduction32(x: u32, e: u32, y: u32) -> u32
     requires { ⌜ (0 < y) × (y < 2 ^ 30) × (e ≤ 4096) ⌝ }
     ensures { λ r. ⌜ r ≡ x * 2 ^ e % y ⌝ }

@@ -1,4 +1,4 @@
--- What is packed is finite (Packs), so that its sign goes above it. Assumes nothing.
+-- The packed magnitude is finite (fmt_decode: Packs), so its sign fits above it. Assumes nothing.
 use Prim.Native.Nat.{_*_, _^_, _<_}
 use mathlib.Core.Path.{ap₂}
 use native.Mathlib.Omega.{arith}

@@ -1,4 +1,4 @@
--- Where there is no remainder the answer is the canonical NaN, a lesser x stays, and else the significands are reduced (Fmods). Assumes nothing.
+-- Where there is no remainder the answer is the canonical NaN, an x below y is its own answer, and otherwise the significands are reduced (Fmods). Assumes nothing.
 use mathlib.Core.Path.{_≡_, ap}
 use mathlib.Core.Bool.{true, false}
 use native.Mathlib.Omega.{arith}

@@ -1,4 +1,4 @@
--- No bit is shifted out of the word, and the quotient is half a word (Routes). Assumes nothing.
+-- No bit is shifted out of the word, and the quotient is half a word (Reductions). Assumes nothing.
 use Prim.Native.Nat.{_*_, _%_, _^_, _<_}
 use mathlib.Core.Path.{ap}
 use native.Mathlib.Nat.{mod-lt, mod-eq-of-lt}

@@ -1,4 +1,4 @@
--- The two words are x times 2^e, and the upper one is below y, so that the division leaves the remainder (Routes). Assumes nothing.
+-- The two words are x times 2^e, and the upper one is below y, so the division gives the remainder (Reductions). Assumes nothing.
 use Prim.Native.Nat.{ℕ, _*_, _^_}
 use native.Mathlib.Omega.{arith}
 use borrow.Author.Needs.{needs}
@@ -6,7 +6,7 @@ use Rattle.fmod.proofs.Reductions.{upper-below, words-leave}
 use Rattle.fmod.proofs.routes.by_division64.Statement.{statement}
 use Rattle.fmod.proofs.routes.by_division64.Tie as tie
 
--- What `c` knows has numbers past omega's bound: its name is taken, so that omega reads the goal and the fact before it alone.
+-- The facts of `c` have numbers that exceed omega's bound: `c` is shadowed, so that omega reads only the goal and the fact before it.
 returns : tie.Need-returns
 returns c =
     let a = c .before .before .args in

@@ -1,4 +1,4 @@
--- What goes on is below twice y and has the remainders of x (Routes), and each route gives the remainder. Assumes nothing.
+-- The number passed on is below twice y and has the remainders of x (Reductions), and each route gives the remainder. Assumes nothing.
 use Prim.Native.Nat.{ℕ, _*_, _%_, _^_, _<_}
 use mathlib.Core.Path.{_≡_}
 use native.Mathlib.Omega.{arith}
