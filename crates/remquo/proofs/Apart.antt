@@ -1,4 +1,4 @@
--- Two numbers by their significands and exponents: how far apart these are tells whether x is all left, or by which division remquo goes. Assumes nothing.
+-- Two numbers by their significands and exponents: the difference of the exponents decides whether x is its own remainder, or which division gives it. Assumes nothing.
 use Prim.Native.Nat.{ℕ, suc, _+_, _-_, _*_, _/_, _%_, _^_, _≤_, _<_}
 use mathlib.Core.Path.{_≡_, refl, sym, ap, ap₂, _∙_, subst}
 use mathlib.Core.Bool.{Bool}
@@ -29,7 +29,7 @@ use Rattle.fmt_decode.specs.Significand.{sigOf, expOf, unitsAt}
 use Rattle.fmt_decode.proofs.Significands.{normal-is, exponent-small, exponent-least}
 use Rattle.remquo.proofs.Nearest.{value-by-division, quotient-by-division, left-below-infinity}
 
--- two finite numbers that are not zero, taken apart
+-- two finite nonzero numbers, unpacked
 pub record Operands (p e x y sx sy : ℕ) (ex ey : ℤ) : Type 0 where
   pub wide : Fits p e
   pub pattern : Pattern (format p e) x
@@ -40,7 +40,7 @@ pub record Operands (p e x y sx sy : ℕ) (ex ey : ℤ) : Type 0 where
   pub taken-x : (sx ≡ sigOf (format p e) x) × (ex ≡ expOf (format p e) x)
   pub taken-y : (sy ≡ sigOf (format p e) y) × (ey ≡ expOf (format p e) y)
 
--- what the end of a division asks for, and what it gives
+-- what the end of a division requires and gives
 pub record Settles (p e x y rem div quo : ℕ) (exp : ℤ) : Type 0 where
   pub rest : rem < div
   pub room : div < 2 ^ (p + 2)
@@ -50,7 +50,7 @@ pub record Settles (p e x y rem div quo : ℕ) (exp : ℤ) : Type 0 where
   pub value : signed (format p e) (unlike (minus (format p e) x) (goesUp rem div quo)) (exactly (format p e) (unitsAt (leftOver rem div quo) exp)) ≡ remquoOf (format p e) x y
   pub quotient : withSign (unlike (minus (format p e) x) (minus (format p e) y)) (counted rem div quo % 2 ^ 31) ≡ quotientOf (format p e) x y
 
--- with the signs as they were found
+-- the same with the signs as computed
 pub settled-is : {p e x y rem div quo : ℕ} {exp : ℤ} → Settles p e x y rem div quo exp → (s t : Bool) → s ≡ minus (format p e) x → t ≡ minus (format p e) y → (v : ℕ) (q : ℤ)
     → v ≡ signed (format p e) (unlike s (goesUp rem div quo)) (exactly (format p e) (unitsAt (leftOver rem div quo) exp)) → q ≡ withSign (unlike s t) (counted rem div quo % 2 ^ 31)
     → (v ≡ remquoOf (format p e) x y) × (q ≡ quotientOf (format p e) x y)
@@ -98,7 +98,7 @@ module _ {p e x y sx sy : ℕ} {ex ey : ℤ} (o : Operands p e x y sx sy ex ey) 
   abbrev u : ℕ
   u = units f (magnitude f x)
 
-  -- one less than the units of y
+  -- the units of y, less one
   abbrev v : ℕ
   v = units f (magnitude f y) - 1
 
@@ -137,7 +137,7 @@ module _ {p e x y sx sy : ℕ} {ex ey : ℤ} (o : Operands p e x y sx sy ex ey) 
       let w = o .wide in
       (omega (arith, a .1 .most, b .1 .least), omega (arith, b .1 .most, pow-mono {i = p} {j = 61} (omega (arith, w .word, w .fair .expo-two))))
 
-  -- digits of both over one exponent, divided
+  -- both significands at one exponent, divided
   settles : (c d at rem quo : ℕ) (exp : ℤ) → exp ≡ pos (suc at) -ℤ pos p → mag exp < 2 ^ e → T (leZ (negsuc p) exp) → 0 < d → d < 2 ^ (p + 2) → u * 2 ^ p ≡ c * 2 ^ at → suc v * 2 ^ p ≡ d * 2 ^ at → rem ≡ c % d → quo ≡ c / d % 2 ^ 32
       → Settles p e x y rem d quo exp
   settles c d at rem quo exp j small least some room first second r q =
@@ -153,7 +153,7 @@ module _ {p e x y sx sy : ℕ} {ex ey : ℤ} (o : Operands p e x y sx sy ex ey) 
         quotient = quotient-by-division f x y u v is-x is-y c d at rem quo some first second r q;
       }
 
-  -- y is more than twice of x
+  -- y is more than twice x
   pub all-left : (n : ℕ) → n ≡ above (ex -ℤ ey +ℤ pos 2) → n ≡ 0 → (x ≡ remquoOf f x y) × (pos 0 ≡ quotientOf f x y)
   all-left n h z =
       let l : a .0 + 2 ≤ b .0 = omega (arith, far-is n h) in
@@ -168,7 +168,7 @@ module _ {p e x y sx sy : ℕ} {ex ey : ℤ} (o : Operands p e x y sx sy ex ey) 
           mul-le-cancel (2 * u) (suc v) (2 ^ p) (pow-pos p)
           (omega (arith, a .1 .counts, b .1 .counts, times (2 ^ p) units-y, times-le (2 ^ a .0) m, times-le (2 ^ p) g, times-le (2 ^ b .0) (b .1 .least)))
 
-  -- y counts twice at the exponent of x
+  -- y doubled to the exponent of x
   pub one-below : (n : ℕ) → n ≡ above (ex -ℤ ey +ℤ pos 2) → n ≡ 1 → Settles p e x y sx (sy * 2) 0 ex
   one-below n h z =
       let l : b .0 ≡ suc (a .0) = omega (arith, far-is n h) in

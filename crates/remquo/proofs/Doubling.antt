@@ -1,4 +1,4 @@
--- A division of which the dividend is doubled: the remainder is doubled and reduced, and the quotient takes one bit more. Assumes nothing.
+-- A division with the dividend doubled: the remainder is doubled and reduced, and the quotient gains one bit. Assumes nothing.
 use Prim.Native.Nat.{ℕ, _+_, _-_, _*_, _/_, _%_, _^_, _≤_, _<_}
 use mathlib.Core.Path.{_≡_, sym}
 use native.Mathlib.Nat.{mod-eq-of-lt}
@@ -16,7 +16,7 @@ module _ (r d : ℕ) where
   pub one-at-most : r < 2 * d → r / d ≤ 1
   one-at-most l = by-contra (r / d) 1 (λ h. omega (arith, times-le d h, div-mod r d (omega arith)))
 
--- the first bit of the quotient is one, and stays within 32 bits
+-- the first quotient is one bit, and fits in 32
 pub first-bit : (a d : ℕ) → a < 2 * d → a / d ≡ a / d % 2 ^ 32
 first-bit a d l = sym (mod-eq-of-lt (omega (arith, one-at-most a d l)))
 

@@ -1,4 +1,4 @@
--- The rows of remquo that need no division: none is left where there is no remainder, and all of x by an infinite y and of a zero. Assumes nothing.
+-- The rows of remquo that need no division: the canonical NaN where there is no remainder, and x itself for an infinite y or a zero x. Assumes nothing.
 use Prim.Native.Nat.{ℕ, suc, _-_, _<_}
 use mathlib.Core.Path.{_≡_, sym, ap, _∙_}
 use mathlib.Core.Bool.{true, false}

@@ -1,4 +1,4 @@
--- The middle between two multiples, by its tests. Assumes nothing.
+-- The middle between two multiples, by the tests of the code. Assumes nothing.
 use Prim.Native.Nat.{ℕ, suc, _+_, _-_, _*_, _%_, _≤_, _<_}
 use mathlib.Core.Path.{_≡_, ap}
 use mathlib.Core.Bool.{true, false, cond}
@@ -7,7 +7,7 @@ use borrow.Author.Tests.{lt-ltb, le-ltb, eq-eqb, ne-eqb}
 use Rattle.algebra.proofs.Products.{order}
 use Rattle.remquo.specs.Nearest.{goesUp, leftOver}
 
--- the quotient's last bit takes a tie past the middle, and nothing else
+-- the quotient's last bit takes a tie past the middle, and nothing else does
 module _ (r d q : ℕ) where
   pub goes-up : d < 2 * r + q % 2 → goesUp r d q ≡ true
   goes-up l =
@@ -21,7 +21,7 @@ module _ (r d q : ℕ) where
       (λ l. rw (le-ltb d (2 * r) (omega arith), ne-eqb (2 * r) d (omega arith)))
       (λ l. rw (le-ltb d (2 * r) (omega arith), eq-eqb (2 * r) d (omega arith), ne-eqb (q % 2) 1 (omega arith)))
 
--- what is left is at most half of the divisor
+-- the distance is at most half of the divisor
 pub left-at-most-half : (r d q : ℕ) → r < d → 2 * leftOver r d q ≤ d
 left-at-most-half r d q l =
     order (suc d) (2 * r + q % 2)

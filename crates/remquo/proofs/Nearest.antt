@@ -1,4 +1,4 @@
--- remquo of two numbers by the digits of both over one exponent: the division of the digits gives what is left and the quotient. Assumes nothing.
+-- remquo of two numbers by whole numbers at one exponent: their division gives the remainder and the quotient. Assumes nothing.
 use Prim.Native.Nat.{ℕ, suc, _+_, _-_, _*_, _/_, _%_, _^_, _≤_, _<_}
 use mathlib.Core.Path.{_≡_, refl, sym, ap, _∙_}
 use mathlib.Core.Bool.{Bool, true, false, not, _&&_, _||_, cond}
@@ -21,7 +21,7 @@ use Rattle.fmt_decode.specs.Significand.{unitsAt}
 use Rattle.fmt_decode.proofs.InUnits.{units-exact}
 use Rattle.remquo.proofs.Ratios.{ratio-parts, nearest-alike}
 
--- ---- what is left, in units: the multiple q * v is at u or below it, and the next one is past it
+-- ---- the remainder, in units: the multiple q * v is at most u, and the next one exceeds it
 module _ (f : Format) (s : Bool) (u v a d at : ℕ) (some : 0 < d) (first : u * 2 ^ f .frac ≡ a * 2 ^ at) (second : v * 2 ^ f .frac ≡ d * 2 ^ at) where
   parts : (u / v ≡ a / d) × (u % v * 2 ^ f .frac ≡ a % d * 2 ^ at)
   parts = ratio-parts u v a d (2 ^ f .frac) (2 ^ at) (pow-pos (f .frac)) (pow-pos at) some first second
@@ -29,7 +29,7 @@ module _ (f : Format) (s : Bool) (u v a d at : ℕ) (some : 0 < d) (first : u * 
   some-units : 0 < v
   some-units = mul-lt-cancel 0 v (2 ^ f .frac) (omega (arith, second, times-le (2 ^ at) some, pow-pos at))
 
-  -- the distance in units, by that of the digits
+  -- the distance in units, by that of the whole numbers
   in-units : (r t : ℕ) → r * 2 ^ f .frac ≡ t * 2 ^ at → r ≡ unitsAt t (pos (suc at) -ℤ pos (f .frac))
   in-units r t e = sym (units-exact (f .frac) at t r e)
 
@@ -62,7 +62,7 @@ module _ (f : Format) (s : Bool) (u v a d at : ℕ) (some : 0 < d) (first : u * 
       kept true = refl
       kept false = refl
 
-  -- whichever way, the format's units count it exactly
+  -- in both cases the format's units count it exactly
   counts : (b : Bool) → (r : ℕ) × (r * 2 ^ f .frac ≡ cond b (d - a % d) (a % d) * 2 ^ at)
   counts true =
       let (q, r) = parts in
@@ -72,7 +72,7 @@ module _ (f : Format) (s : Bool) (u v a d at : ℕ) (some : 0 < d) (first : u * 
       (v - u % v, omega (arith, times (2 ^ f .frac) w, times (2 ^ at) z, r, second))
   counts false = (u % v, parts .1)
 
-  -- and where it is not more than the remainder, it is not more than u
+  -- where it is at most the remainder, it is at most u
   left-within : (b : Bool) → cond b (d - a % d) (a % d) ≤ a % d → unitsAt (cond b (d - a % d) (a % d)) (pos (suc at) -ℤ pos (f .frac)) ≤ u
   left-within b l =
       let (r, e) = counts b in
@@ -80,14 +80,14 @@ module _ (f : Format) (s : Bool) (u v a d at : ℕ) (some : 0 < d) (first : u * 
       let k : r ≤ u = mul-le-cancel r u (2 ^ f .frac) (pow-pos (f .frac)) (omega (arith, e, first, times-le (2 ^ at) t)) in
       omega (arith, in-units r (cond b (d - a % d) (a % d)) e)
 
--- ---- a quotient of which 32 bits are kept: its last bit, and its last 31 bits with b added, are those of the whole quotient, whether the sum passes 2 ^ 32 or not
+-- ---- a quotient of which 32 bits are kept: its last bit, and its last 31 bits with b added, are those of the whole quotient, whether or not the sum wraps
 tie-alike : (r d q : ℕ) → goesUp r d (q % 2 ^ 32) ≡ goesUp r d q
 tie-alike r d q = let e : q % 2 ^ 32 % 2 ≡ q % 2 = omega arith in ap (λ t. ltb d (2 * r) || (eqb (2 * r) d && eqb t 1)) e
 
 kept-alike : (q k b n : ℕ) → k ≡ q % 2 ^ 32 → n ≡ q + b → (k + b) % 2 ^ 31 ≡ n % 2 ^ 31
 kept-alike q k b n e h = omega arith
 
--- ---- remquo, where x is a and y is d at the exponent `at`, and rem and quo come of their division
+-- ---- remquo, where x is a and y is d at the exponent `at`, and rem and quo are from their division
 module _ (f : Format) (x y u w : ℕ) (is-x : kind f x ≡ finite u) (is-y : kind f y ≡ finite (suc w)) where
   module _ (a d at rem quo : ℕ) (some : 0 < d) (first : u * 2 ^ f .frac ≡ a * 2 ^ at) (second : suc w * 2 ^ f .frac ≡ d * 2 ^ at) (is-rem : rem ≡ a % d) (is-quo : quo ≡ a / d % 2 ^ 32) where
     up-alike : goesUp rem d quo ≡ goesUp (a % d) d (a / d)

@@ -1,4 +1,4 @@
--- Two numbers over one scale have the quotient of their digits, the remainder over the scale, and the nearest multiple. Assumes nothing.
+-- Two numbers over one scale have the quotient of their numerators, their remainder over the scale, and their nearest multiple. Assumes nothing.
 use Prim.Native.Nat.{ℕ, _+_, _-_, _*_, _/_, _%_, _≤_, _<_}
 use mathlib.Core.Path.{_≡_, sym, ap, _∙_}
 use mathlib.Core.Bool.{_&&_, _||_, cond}
@@ -24,7 +24,7 @@ same-eqb a b c d f g = go (decLe a b) (decLe b a)
     go (no h) k = unlike (λ e. h (omega arith))
     go (yes h) (no k) = unlike (λ e. k (omega arith))
 
--- of u and v over the scale h, and a and d over s
+-- u and v over the scale h, and a and d over s
 module _ (u v a d h s : ℕ) (scale : 0 < h) (unit : 0 < s) (some : 0 < d) (first : u * h ≡ a * s) (second : v * h ≡ d * s) where
   pub ratio-parts : (u / v ≡ a / d) × (u % v * h ≡ a % d * s)
   ratio-parts =

@@ -1,4 +1,4 @@
-// remquo's answer: the value's pattern, and the quotient's magnitude modulo 2^31 with its sign.
+// remquo's answer: the pattern of the remainder, and the magnitude of the quotient modulo 2^31 with its sign.
 pub struct Remquo64 {
     pub value: u64,
     pub quotient: i32,

@@ -1,22 +1,22 @@
-// Long division, a bit of the quotient at a time, of which the last 32 are kept; and the multiple that is nearest.
+// Long division, one bit of the quotient at a time, of which the last 32 are kept; and the nearest multiple.
 ghost use mathlib.Core.Path.{_≡_};
 ghost use Prim.Native.Nat.{_+_, _*_, _/_, _%_, _<_, _^_};
 ghost use Rattle.remquo.specs.Nearest.{goesUp, counted, leftOver};
 
-// What is left below the divisor, and the last 32 bits of the quotient.
+// The remainder, and the last 32 bits of the quotient.
 pub struct Division {
     pub rem: u64,
     pub quo: u32,
 }
 
-// The nearest multiple: whether it is the next one and not the one below, how far it is, and the last 32 bits of its number.
+// The nearest multiple: whether it is the next one or the one below, its distance, and the last 32 bits of its number.
 pub struct Choice {
     pub up: bool,
     pub rest: u64,
     pub quo: u32,
 }
 
-// One bit: a remainder below twice the divisor, and a quotient whose last bit is still open.
+// One bit, for a remainder below twice the divisor and a quotient whose last bit is still 0.
 pub fn divide_bit(rem: u64, div: u64, quo: u32) -> Division
     requires { ⌜ (rem < 2 * div) × (quo % 2 ≡ 0) ⌝ }
     ensures { λ r. ⌜ (r .rem ≡ rem % div) × (r .quo ≡ quo + rem / div) ⌝ }
@@ -48,8 +48,8 @@ pub fn long_divide(num: u64, div: u64, n: u32) -> Division
     Division { rem, quo }
 }
 
-// The multiple below, or the next one where that is nearer, or as near and even: twice the remainder is past the divisor, and in a tie an odd quotient's
-// last bit takes it past. The quotient then goes up by one, and wraps where its 32 bits are ones: they are its last 32 bits still.
+// The next multiple where twice the remainder, plus the quotient's last bit, exceeds the divisor: that bit takes a tie to the even multiple. Otherwise the one below.
+// The incremented quotient wraps where its 32 bits are all ones: its last 32 bits are still right.
 pub fn nearest_multiple(rem: u64, div: u64, quo: u32) -> Choice
     requires { ⌜ (rem < div) × (div < 2 ^ 63) ⌝ }
     ensures { λ r. ⌜ (r .up ≡ goesUp rem div quo) × (r .rest ≡ leftOver rem div quo) × (r .quo ≡ counted rem div quo % 2 ^ 32) ⌝ }

@@ -1,4 +1,4 @@
-// remquo: what is left of x by the nearest multiple of y, and which one.
+// remquo: the remainder of x by the nearest multiple of y, and that multiple's number.
 pub mod answer;
 pub mod division;
 pub mod remquo;

@@ -1,4 +1,4 @@
-// remquo: what is left of x by the nearest whole multiple of y, and that multiple's number modulo 2^31.
+// remquo: the remainder of x by the nearest whole multiple of y, and that multiple's number modulo 2^31.
 ghost use mathlib.Core.Path.{_≡_};
 ghost use mathlib.Core.Bool.{false};
 ghost use Prim.Native.Nat.{_<_};
@@ -18,8 +18,8 @@ use fmt_fields::is_negative;
 use fmt_fields::pattern::infinity;
 use fmt_fields::pattern::magnitude_of;
 
-// Two numbers that are not zero. Two exponents below y's, x is less than half of y and all left. One below, it is less than y: the quotient is 0 so far, and y's
-// significand counts twice at the exponent of x. Else the significands are divided, and what is left stands at the exponent of y.
+// Two nonzero numbers. With an exponent two or more below y's, x is less than half of y and is its own remainder. With one below, x is less than y: the quotient
+// is 0 so far, and y's significand is doubled to the exponent of x. Otherwise the significands are divided, and the remainder has the exponent of y.
 fn remquo_numbers(frac: u32, expo: u32, x: u64, y: u64) -> Remquo
     requires { ⌜ Fits frac expo × Pattern (format frac expo) x × (0 < magnitude (format frac expo) x) × (magnitude (format frac expo) x < inf (format frac expo)) × (0 < magnitude (format frac expo) y) × (magnitude (format frac expo) y < inf (format frac expo)) ⌝ }
     ensures { λ r. ⌜ (r .value ≡ remquoOf (format frac expo) x y) × (r .quotient ≡ quotientOf (format frac expo) x y) ⌝ }
@@ -42,7 +42,7 @@ fn remquo_numbers(frac: u32, expo: u32, x: u64, y: u64) -> Remquo
     settle(frac, expo, neg, differ, d.rem, b.sig, d.quo, b.exp)
 }
 
-// A finite x, and y not a zero: by an infinite y all of x is left, and of a zero too.
+// A finite x, and y not a zero. With an infinite y, or a zero x, x is its own remainder.
 fn remquo_finite(frac: u32, expo: u32, x: u64, y: u64) -> Remquo
     requires { ⌜ Fits frac expo × Pattern (format frac expo) x × (noRemainder (format frac expo) x y ≡ false) ⌝ }
     ensures { λ r. ⌜ (r .value ≡ remquoOf (format frac expo) x y) × (r .quotient ≡ quotientOf (format frac expo) x y) ⌝ }
@@ -62,7 +62,7 @@ fn remquo_finite(frac: u32, expo: u32, x: u64, y: u64) -> Remquo
     remquo_numbers(frac, expo, x, y)
 }
 
-// Where there is no remainder, the canonical NaN.
+// The canonical NaN where there is no remainder.
 pub fn remquo64(x: u64, y: u64) -> Remquo64
     ensures { λ r. ⌜ (r .value ≡ remquoOf b64 x y) × (r .quotient ≡ quotientOf b64 x y) ⌝ }
 {

@@ -1,4 +1,4 @@
-// The end of a division to the nearest: the multiple below or the next one, what is left as a pattern, and the quotient with its sign.
+// The end of a division to the nearest: the multiple below or the next, the remainder as a pattern, and the quotient with its sign.
 ghost use mathlib.Core.Path.{_≡_};
 ghost use Prim.Native.Nat.{_+_, _%_, _<_, _^_};
 ghost use lib.Dec.{T};
@@ -14,7 +14,7 @@ use crate::division::nearest_multiple;
 use fmt_decode::significand::pack_significand;
 use fmt_fields::with_sign;
 
-// What is left, and the quotient, at any width.
+// The remainder and the quotient, at any width.
 pub struct Remquo {
     pub value: u64,
     pub quotient: i32,
@@ -31,7 +31,7 @@ pub fn signed_quotient(neg: bool, quo: u32) -> i32
     kept
 }
 
-// The end of every division: the multiple below or the next one, and for that one the rest has the other sign.
+// The end of every division: takes the multiple below or the next. For the next, the remainder has the other sign.
 pub fn settle(
     frac: u32,
     expo: u32,

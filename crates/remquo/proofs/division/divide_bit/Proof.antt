@@ -1,4 +1,4 @@
--- Below the divisor nothing is to be taken away, and else once (Doubling); the open bit takes the one. Assumes nothing.
+-- A remainder below the divisor is kept; otherwise the divisor is subtracted once (Doubling), and the quotient's last bit is set. Assumes nothing.
 use mathlib.Core.Path.{sym}
 use native.Mathlib.Omega.{arith}
 use borrow.Author.Needs.{needs}

@@ -1,4 +1,4 @@
--- The invariant: the dividend so far, doubled once a turn, is divided (Doubling). Assumes nothing.
+-- The invariant: the dividend so far, doubled at each turn, is divided (Doubling). Assumes nothing.
 use Prim.Native.Nat.{ℕ, suc, _+_, _*_, _/_, _%_, _^_, _<_}
 use mathlib.Core.Path.{_≡_, ap, _∙_}
 use native.Mathlib.Nat.{two-pow-succ}

@@ -1,4 +1,4 @@
--- Where there is no remainder the answer is the canonical NaN, and else that of the format (Kept). Assumes nothing.
+-- Where there is no remainder the answer is the canonical NaN, otherwise that of the format (Kept). Assumes nothing.
 use mathlib.Core.Path.{sym, _∙_}
 use native.Mathlib.Omega.{arith}
 use mir.Facts.{toZ-ofZ}

@@ -1,4 +1,4 @@
--- An infinite y and a zero are rows of their own (Kept). Assumes nothing.
+-- An infinite y and a zero x are rows of their own (Kept). Assumes nothing.
 use mathlib.Core.Path.{_≡_, sym, _∙_}
 use native.Mathlib.Omega.{arith}
 use borrow.Author.Needs.{needs}

@@ -1,4 +1,4 @@
--- How far the exponents are apart tells the three cases (Apart), each with the end that it needs. Assumes nothing.
+-- The difference of the exponents distinguishes the three cases (Apart), each with the end that it needs. Assumes nothing.
 use Prim.Native.Nat.{_*_}
 use mathlib.Core.Path.{_≡_}
 use native.Mathlib.Omega.{arith}
@@ -31,7 +31,7 @@ far c =
     let (i, j) = exponents-fit (operands t) in
     simp (toZ-ofZ, i, j) at (c .exponent-lead .ensures)
 
--- the end of the division that each case makes
+-- the end of the division in each case
 one-end : (c : tie.Then2) → let t = c .before .before .before .before .before .before .before in let s = t .before .before .args in let r = t .before .significand-of .result in
     Settles (s .frac) (s .expo) (s .x) (s .y) (r .sig) (t .significand-of2 .result .sig * 2) 0 (r .exp)
 one-end c =

@@ -1,4 +1,4 @@
--- What is left is at most half of the divisor, so that the format holds it (longdiv: Middles), and its bits are the quotient's (Nearest). Assumes nothing.
+-- The distance is at most half of the divisor, so the format holds it (Middles), and its bits are the quotient's (Nearest). Assumes nothing.
 use Prim.Native.Nat.{_+_, _%_, _^_, _<_}
 use mathlib.Core.Path.{_≡_, sym, ap, ap₂, _∙_, subst}
 use native.Mathlib.Omega.{arith}
