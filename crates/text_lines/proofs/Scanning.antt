@@ -1,4 +1,4 @@
--- Laws of scanning a line: what stands at a offset, the first offset of some bytes, a part that is not there, and blanks. Assumes nothing.
+-- Laws of scanning a line: the bytes at an offset, the first offset of some bytes, an empty part, and blanks. Assumes nothing.
 use mathlib.Core.Path.{_≡_, refl, sym, ap, _∙_}
 use mathlib.Core.Bool.{Bool, true, false, cond, _&&_, and-true, and-false, true≢false}
 use mathlib.Core.List.{List, [], _∷_, _++_}
@@ -11,7 +11,7 @@ use lib.Seq.{drop-cons}
 use borrow.Author.Tests.{eq-eqb, ne-eqb, eqb-true, le-leb, lt-leb}
 use Rattle.text_lines.specs.Offsets.{starts, ahead, offsetOf, arrow, partOf, holds, blankTooMany}
 
--- ---- what stands at a offset
+-- ---- the bytes at an offset
 
 starts-short : (p s : List ℕ) → length s < length p → starts p s ≡ false
 unfolding starts
@@ -45,7 +45,7 @@ module _ (s : List ℕ) (i : ℕ) where
       ∙ ap (λ (t : Bool). eqb (getD s i 0) 32 && t)
       (rw (starts-here 45 (62 ∷ 32 ∷ []) s (i + 1) (omega arith), two, starts-here 62 (32 ∷ []) s (i + 2) (omega arith), three, starts-here 32 [] s (i + 3) (omega arith), and-true))
 
-  -- a wrong byte is enough, and where the first three are right the last one tells
+  -- a wrong byte suffices; where the first three are right, the last one decides
   module _ (room : i + 4 ≤ length s) where
     pub not-first : (getD s i 0 ≡ 32 → ⊥) → false ≡ starts arrow (drop i s)
     not-first e = rw (arrow-is room, ne-eqb _ 32 e)
@@ -91,7 +91,7 @@ module _ (s : List ℕ) (a e : ℕ) where
 
 -- ---- blanks
 
--- two blanks stand side by side in s with one more after it, and one more before it where t says so
+-- two blanks are adjacent in s with one more after it, and one more before it where t is set
 unfoldable pub doubled : Bool → List ℕ → Bool
 doubled t s = holds (32 ∷ 32 ∷ []) (cond t (32 ∷ (s ++ (32 ∷ []))) (s ++ (32 ∷ [])))
 
@@ -127,7 +127,7 @@ module _ (s : List ℕ) where
   unfolding blankTooMany doubled
   blanks-of-some h = rw (ne-eqb _ 0 h)
 
--- the first n bytes are a part, where there are so many
+-- the first n bytes are a part, where there are as many
 pub first-part : (n : ℕ) (s : List ℕ) → n ≤ length s → partOf s 0 n ≡ take n s
 unfolding partOf
 first-part n s h = let e : n - 0 ≡ n = omega arith in rw (le-leb n (length s) h, e)

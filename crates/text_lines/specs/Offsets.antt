@@ -1,4 +1,4 @@
--- Where bytes stand in a line, its parts, and its blanks. Assumes nothing.
+-- Offsets of bytes in a line, its parts, and its blanks. Assumes nothing.
 use Prim.Native.Nat.{ℕ, suc, _+_, _-_, min}
 use mathlib.Core.Bool.{Bool, true, false, cond, _&&_, _||_}
 use mathlib.Core.List.{List, [], _∷_, _++_}
@@ -11,12 +11,12 @@ starts [] s = true
 starts (a ∷ p) [] = false
 starts (a ∷ p) (c ∷ s) = eqb c a && starts p s
 
--- how many bytes of s stand before the first p: all of them where there is none
+-- how many bytes of s come before the first p: all of them where there is none
 unfoldable pub ahead : List ℕ → List ℕ → ℕ
 ahead p [] = 0
 ahead p (c ∷ s) = cond (starts p (c ∷ s)) 0 (suc (ahead p s))
 
--- the first offset from `from` on where p stands in s, or the length of s
+-- the first offset of p in s from `from` on, or the length of s
 unfoldable pub offsetOf : List ℕ → List ℕ → ℕ → ℕ
 offsetOf p s from = min (from + ahead p (drop from s)) (length s)
 
@@ -28,11 +28,11 @@ arrow = 32 ∷ 45 ∷ 62 ∷ 32 ∷ []
 unfoldable pub partOf : List ℕ → ℕ → ℕ → List ℕ
 partOf s a e = cond (leb e (length s)) (take (e - a) (drop a s)) []
 
--- p stands somewhere in s
+-- p occurs in s
 unfoldable pub holds : List ℕ → List ℕ → Bool
 holds p [] = false
 holds p (c ∷ s) = starts p (c ∷ s) || holds p s
 
--- a blank at either end or beside another one: with a blank more at each end, two stand side by side; not where there is no byte at all
+-- a blank at either end or beside another one: with one more blank at each end, two are adjacent; false for an empty line
 unfoldable pub blankTooMany : List ℕ → Bool
 blankTooMany s = cond (eqb (length s) 0) false (holds (32 ∷ 32 ∷ []) (32 ∷ (s ++ (32 ∷ []))))

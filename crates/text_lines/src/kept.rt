@@ -1,4 +1,4 @@
-// The part of a line that is kept while it comes in. The rest of a longer line is passed over and takes no memory.
+// The part of a line that is kept while it is read. The rest of a longer line is skipped and takes no memory.
 ghost use mathlib.Core.Path.{_≡_};
 ghost use Prim.Native.Nat.{_-_};
 ghost use Rattle.text_lines.specs.Keeping.{noneKept, MoreKept};
@@ -29,7 +29,7 @@ fn room_after(held: usize) -> usize
     if held < KEPT { KEPT - held } else { 0 }
 }
 
-// Keeps the bytes of s after those that are held, as far as there is room for them.
+// Appends the bytes of s to those kept, as far as there is room.
 pub fn keep(line: &mut [u8; 128], mut k: Kept, s: &[u8]) -> Kept
     ensures { λ r. ⌜ MoreKept (now (line .entry)) k (now (s .entry)) (now (line .exit)) r ⌝ }
 {

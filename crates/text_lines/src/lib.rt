@@ -1,5 +1,5 @@
-// The fields of lines of text, as docs/LINES.md has them: words and numbers, read from bytes and written into a buffer that is lent.
-// No function reads or writes a file, and none asks anything of the bytes that a line may have.
+// The parts of a line of text, found and kept, and the fields that docs/LINES.md has.
+// No function reads or writes a file, and a line may have any bytes.
 mod kept;
 mod scan;
 

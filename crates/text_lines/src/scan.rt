@@ -1,4 +1,4 @@
-// Finding the parts of a line.
+// Finds the parts of a line.
 ghost use mathlib.Core.Path.{_≡_};
 ghost use mathlib.Core.List.{[], _∷_};
 ghost use Prim.Native.Nat.{_≤_};
@@ -20,7 +20,7 @@ pub fn find(s: &[u8], from: usize, b: u8) -> usize
     s.len()
 }
 
-// Whether ` -> ` stands in s from the offset at on.
+// Whether s has ` -> ` at the offset at.
 fn is_arrow(s: &[u8], at: usize) -> bool
     ensures { λ r. ⌜ r ≡ starts arrow (drop at (now (s .entry))) ⌝ }
 {
@@ -57,7 +57,7 @@ pub fn find_arrow(s: &[u8]) -> usize
     i
 }
 
-// The bytes of s from the offset a up to the offset e; none where there is no such part.
+// The bytes of s from the offset a up to the offset e; empty where there are none.
 pub fn part(s: &[u8], a: usize, e: usize) -> &[u8]
     ensures { λ r. ⌜ now r ≡ partOf (now (s .entry)) a e ⌝ }
 {
@@ -69,7 +69,7 @@ pub fn part(s: &[u8], a: usize, e: usize) -> &[u8]
     &s[..0]
 }
 
-// Whether a blank stands at either end of s or beside another one.
+// Whether s has a blank at either end or beside another one.
 pub fn has_blank_too_many(s: &[u8]) -> bool
     ensures { λ r. ⌜ r ≡ blankTooMany (now (s .entry)) ⌝ }
 {

@@ -1,4 +1,4 @@
--- Laws of counting decimal digits: a digit is taken off, more than one is needed, and enough are counted. Assumes nothing.
+-- Laws of counting decimal digits: one digit less, more than one needed, and enough counted. Assumes nothing.
 use mathlib.Core.Path.{_≡_, sym, _∙_}
 use Prim.Native.Nat.{ℕ, _+_, _-_, _/_, _^_, _≤_, _<_}
 use native.Mathlib.Nat.{div-div-eq-div-mul, div-mul-le-self, lt-div-mul-add, one-le-pow, pow-suc}
@@ -6,7 +6,7 @@ use native.Mathlib.Numerals.{add-one}
 use native.Mathlib.Omega.{arith}
 use Rattle.algebra.proofs.Products.{times-le, times}
 
--- r is what n has beyond k digits
+-- r is n without its last k digits
 module _ (n k r : ℕ) (is : r ≡ n / 10 ^ k) where
   pub digit-off : r / 10 ≡ n / 10 ^ (k + 1)
   digit-off = rw (is, add-one, pow-suc) (div-div-eq-div-mul n (10 ^ k) 10)

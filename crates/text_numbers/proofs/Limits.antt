@@ -1,4 +1,4 @@
--- A limit above every range changes no number that a range has, and what is out of range stays so. Assumes nothing.
+-- A limit above every range changes no number within a range, and a number out of range stays so. Assumes nothing.
 use mathlib.Core.Path.{_≡_, refl, ap, _∙_}
 use Prim.Native.Nat.{ℕ, _<_, min}
 use native.Mathlib.Omega.{arith}
@@ -15,7 +15,7 @@ pub field-cap : (m : ℕ) (d : Digits) → fieldOf (capped m d) ≡ cappedField 
 field-cap m (Number v) = refl
 field-cap m Wrong = refl
 
--- what a function says of every number above the limit it says of the limit
+-- a function that is constant above the limit has that value at the limit
 cap-any : {A : Type 0} (g : Field → A) (m : ℕ) → ((v : ℕ) → m < v → g (Value m) ≡ g (Value v)) → (f : Field) → g (cappedField m f) ≡ g f
 cap-any g m above (Value v) =
     order v m

@@ -1,4 +1,4 @@
--- Laws of writers: nothing is placed where there is no room, and a part that was lent and filled is placed. Assumes nothing.
+-- Laws of writers: nothing is placed where there is no room, and a borrowed part that was filled is placed. Assumes nothing.
 use mathlib.Core.Path.{_≡_, refl, sym, ap, _∙_}
 use mathlib.Core.List.{List, [], _∷_, _++_, append-assoc}
 use Prim.Native.Nat.{ℕ, zero, suc, _+_, _-_, _/_, _%_, _≤_, _<_}
@@ -19,15 +19,15 @@ module _ {xs : List ℕ} {at : ℕ} (ys : List ℕ) where
       → xs′ ≡ paste xs at ys (length ys) → at′ ≡ at + length ys → Placed xs at ys xs′ at′
   placed h b p = record { bytes = simp (le-leb _ _ h) b; offset = simp (le-leb _ _ h) p }
 
--- a part of xs of k elements, from at on, put back as ys
+-- a part of k elements of xs, from at on, replaced by ys
 pub part-placed : (xs ys : List ℕ) (at k : ℕ) → length ys ≡ k → take at xs ++ (ys ++ drop k (drop at xs)) ≡ paste xs at ys (length ys)
 part-placed xs ys at k e = rw (e, drop-drop) (rw (← e, take-length) (sym (append-assoc (take at xs) ys (drop (at + length ys) xs))))
 
--- one element more of a copy
+-- one more element of a copy
 pub copy-step : (xs s : List ℕ) (at i : ℕ) → at + i < length xs → i < length s → set (paste xs at s i) (at + i) (getD s i 0) ≡ paste xs at s (i + 1)
 copy-step xs s at i h l = rw add-one (paste-suc xs at s i 0 h l)
 
--- k digits are k
+-- k digits have the length k
 pub length-digits : (b k n : ℕ) → length (digitsOf b k n) ≡ k
 unfolding digitsOf
 length-digits b zero n = refl
@@ -44,7 +44,7 @@ digits-placed b k n at xs ys h e =
     (ap (λ (l : List ℕ). take at xs ++ (l ++ drop (at + k - at) (drop at xs))) is ∙ part-placed xs (digitsOf b k n) at (at + k - at) (length-digits b k n ∙ sym span))
     (omega (arith, length-digits b k n))
 
--- a byte stored before what was copied in
+-- a byte stored before the copied bytes
 store-before : (xs ds : List ℕ) (at k a : ℕ) → at < length xs → set (paste xs (at + 1) ds k) at a ≡ paste xs at (a ∷ ds) (suc k)
 store-before xs ds at k a h =
     let front : List ℕ = take (at + 1) xs in
@@ -57,7 +57,7 @@ store-before xs ds at k a h =
     (set-append-left front (take k ds) at a (omega arith) ∙ ap (λ (l : List ℕ). l ++ take k ds) stored ∙ append-assoc (take at xs) (a ∷ []) (take k ds))
     ∙ ap (λ (n : ℕ). (take at xs ++ (a ∷ take k ds)) ++ drop n xs) after
 
--- the bytes ds were written from at + 1 on, or there was no room; a goes before them, or nowhere
+-- the bytes ds were written from at + 1 on, or there was no room; a is stored before them, or not at all
 module _ {xs : List ℕ} {at : ℕ} {ds xs′ : List ℕ} {at′ : ℕ} (a : ℕ) (p : Placed xs (at + 1) ds xs′ at′) where
   pub none-before : 0 < length ds → at′ ≡ at + 1 → Placed xs at (a ∷ ds) xs′ at
   none-before some stays =

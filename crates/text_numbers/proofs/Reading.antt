@@ -1,4 +1,4 @@
--- Laws of reading digits: a byte more, the end, a byte that is no digit; how large a value gets; and a limit that is put on early. Assumes nothing.
+-- Laws of reading digits: one more byte, the end, a byte that is not a digit; the size of a value; and a limit applied early. Assumes nothing.
 use mathlib.Core.Path.{_≡_, refl, sym, ap, _∙_}
 use mathlib.Core.Bool.{Bool, true, false, cond}
 use mathlib.Core.List.{List, [], _∷_}
@@ -14,13 +14,13 @@ use Rattle.algebra.proofs.Products.{order}
 use Rattle.text_numbers.specs.declared.digits.Digits.the-variants.{Number, Wrong}
 use Rattle.text_numbers.specs.Digits.{digitOf, readOn, capped}
 
--- a digit more: the bound of the value goes from i digits to i + 1
+-- one more digit: the bound of the value grows from i digits to i + 1
 pub grown : {b v d : ℕ} (i : ℕ) → b ≤ 16 → v < 16 ^ i → d < b → v * b + d < 16 ^ (i + 1)
 grown {b} {v} {d} i small low digit =
     rw (add-one, pow-suc)
     (let p : v * b ≤ v * 16 = mul-le-mul-left v small in omega arith)
 
--- and up to sixteen of them fit a word
+-- up to sixteen digits fit in a word
 pub fits : {v : ℕ} (i : ℕ) → i ≤ 16 → v < 16 ^ i → v < 2 ^ 64
 fits i most low = omega (arith, pow-le-pow-right {n = 16} (omega arith) most)
 
@@ -40,7 +40,7 @@ read-end b v s i e = rw (e, drop-length)
 
 -- ---- reading with a limit
 
--- what is above the limit before a digit is above it after
+-- a value above the limit before a digit is above it after
 cap-digit : (b v d m : ℕ) → 1 ≤ b → min (min v m * b + d) m ≡ min (v * b + d) m
 cap-digit b v d m h =
     order v m
@@ -50,19 +50,19 @@ cap-digit b v d m h =
     let q : m * b ≤ v * b = mul-le-mul-right b (omega arith) in
     rw e (omega arith))
 
--- a digit more, read or refused
+-- one more digit, read or refused
 cap-step : (b m : ℕ) → 1 ≤ b → (v d : ℕ) (s : List ℕ) (t : Bool) → ((n : ℕ) → capped m (readOn b (min n m) s) ≡ capped m (readOn b n s))
     → capped m (cond t (readOn b (min v m * b + d) s) Wrong) ≡ capped m (cond t (readOn b (v * b + d) s) Wrong)
 cap-step b m h v d s true rest = sym (rest (min v m * b + d)) ∙ ap (λ (n : ℕ). capped m (readOn b n s)) (cap-digit b v d m h) ∙ rest (v * b + d)
 cap-step b m h v d s false rest = refl
 
--- the limit may be put on before the rest is read
+-- the limit may be applied before the rest is read
 pub cap-early : (b m : ℕ) → 1 ≤ b → (v : ℕ) (s : List ℕ) → capped m (readOn b (min v m) s) ≡ capped m (readOn b v s)
 unfolding readOn
 cap-early b m h v [] = ap Number (omega arith)
 cap-early b m h v (c ∷ s) = cap-step b m h v (digitOf c) s (ltb (digitOf c) b) (λ n. cap-early b m h n s)
 
--- ---- how large a value is
+-- ---- the size of a value
 
 below-step : (b v d n r : ℕ) → d < b → r < (v * b + d + 1) * b ^ n → r < (v + 1) * b ^ suc n
 below-step b v d n r digit low =
@@ -70,7 +70,7 @@ below-step b v d n r digit low =
     let same : (v + 1) * b * b ^ n ≡ (v + 1) * b ^ suc n = mul-assoc (v + 1) b (b ^ n) ∙ ap (λ (p : ℕ). (v + 1) * p) (sym (pow-succ' b n)) in
     omega arith
 
--- n digits after a value v say less than the next one's n zeros
+-- n digits after a value v make less than v + 1 followed by n zeros
 read-below : (b v : ℕ) (s : List ℕ) (r : ℕ) → readOn b v s ≡ Number r → r < (v + 1) * b ^ length s
 unfolding readOn
 read-below b v [] r e = let same : v ≡ r = cc in rw pow-zero (omega arith)

@@ -34,7 +34,7 @@ glyph-read d h =
     ) (omega arith))
     (λ l. simp (lt-ltb d 10 l, le-ltb (48 + d) 48 (omega arith), lt-ltb (48 + d) 58 (omega arith)) (omega arith))
 
--- the digits of n after digits that say v, and before whatever t is
+-- the digits of n after digits of value v, and before any t
 pub digits-read : (b : ℕ) → 1 < b → b ≤ 16 → (k n v : ℕ) (t : List ℕ) → n < b ^ k → readOn b v (digitsOf b k n ++ t) ≡ readOn b (v * b ^ k + n) t
 unfolding readOn digitsOf
 digits-read b low high zero n v t h =
@@ -70,7 +70,7 @@ first-digit b (suc k) n =
     ∙ first-digit b k (n / b)
     ∙ ap (λ (m : ℕ). glyphOf (m % b)) (div-div-eq-div-mul n b (b ^ k) ∙ ap (λ (d : ℕ). n / d) (sym (pow-succ' b k)))
 
--- as few digits as hold a number do not begin with zero
+-- the fewest digits of a number do not begin with zero
 no-leading-zero : (n k : ℕ) → Fewest n k → leadsWithZero (digitsOf 10 k n) ≡ false
 unfolding leadsWithZero
 no-leading-zero n zero f = absurd (omega (arith, f .some))
@@ -89,7 +89,7 @@ unfolding naturalOf
 natural-read n k f =
     simp (no-leading-zero n k f, length-digits 10 k n, ne-eqb k 0 (λ z. absurd (omega (arith, f .some))), all-read 10 (omega arith) (omega arith) k n (f .hold))
 
--- a digit's byte is no minus
+-- a digit's byte is not a minus
 glyph-no-minus : (d : ℕ) → glyphOf d ≡ 45 → ⊥
 glyph-no-minus d =
     order 10 d

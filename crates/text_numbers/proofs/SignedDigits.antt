@@ -1,4 +1,4 @@
--- A number with its sign, written by its size: with a minus below zero, without one from zero on. Assumes nothing.
+-- A number with its sign, written by its absolute value: with a minus where it is negative, otherwise without. Assumes nothing.
 use mathlib.Core.Path.{_≡_, subst}
 use mathlib.Core.Bool.{true, false}
 use mathlib.Core.List.{List, _∷_}

@@ -1,4 +1,4 @@
--- A number below zero as the machine makes it: zero less the number, made narrow. Assumes nothing.
+-- A negative number as the machine computes it: zero less the number, narrowed. Assumes nothing.
 use mathlib.Core.Path.{_≡_, sym, ap, _∙_, subst}
 use mathlib.Core.Bool.{Bool, true, false}
 use Prim.Native.Nat.{ℕ, _^_, _≤_, _<_}
@@ -15,11 +15,11 @@ use Rattle.algebra.proofs.Integers.{eqZ, subZ, negZ, oneZ, absZ, sfitsZ, magZ-f
 zero-less : (v : ℕ) → pos 0 -ℤ pos v ≡ negℤ (pos v)
 zero-less v = eqZ (pos 0 -ℤ pos v) (negℤ (pos v)) (omega (arith, subZ (pos 0) (pos v), negZ (pos v)))
 
--- it fits every width whose half it is at most
+-- it fits every width whose half range it is within
 neg-fits : (w : Width) (v : ℕ) → v ≤ 2 ^ hbits w → SFits w (negℤ (pos v))
 neg-fits w v h = sfitsZ w (negℤ (pos v)) (omega (arith, negZ (pos v), pow-pos (hbits w))) (omega (arith, negZ (pos v)))
 
--- and comes back as it was
+-- and is unchanged
 pub neg-kept : (z : ℤ) (v : ℕ) → v ≤ 2147483648 → z ≡ negℤ (pos v) → toZ w32 (ofZ w32 z) ≡ negℤ (pos v)
 neg-kept z v h e = ap (λ y. toZ w32 (ofZ w32 y)) e ∙ toZ-ofZ w32 (negℤ (pos v)) (neg-fits w32 v (omega arith))
 
@@ -39,7 +39,7 @@ module _ (v : ℕ) (h : v ≤ 2147483648) where
   pub narrow-is : toZ w32 (ofZ w32 (toZ w64 (ofZ w64 (pos 0 -ℤ toZ w64 v)))) ≡ negℤ (pos v)
   narrow-is = toZ-ofZ w32 (toZ w64 (ofZ w64 (pos 0 -ℤ toZ w64 v))) narrow-fits ∙ wide
 
--- the size of a narrow number below zero, as the machine makes it: made wide, taken from zero, and read without a sign
+-- the absolute value of a narrow negative number as the machine computes it: widened, subtracted from zero, and read without a sign
 module _ (z : ℤ) (f : SFits w32 z) where
   same-narrow : toZ w32 (ofZ w32 z) ≡ z
   same-narrow = toZ-ofZ w32 z f
@@ -74,7 +74,7 @@ module _ (z : ℤ) (f : SFits w32 z) where
   pub size-fits : Fits w64 (natAbs (toZ w64 (ofZ w64 (pos 0 -ℤ toZ w64 (ofZ w64 (toZ w32 (ofZ w32 z)))))))
   size-fits = record { fits = omega (arith, size-is, size-small) }
 
-  -- the test that the machine makes
+  -- the machine's test
   pub tested : {t : Bool} → ltZ (toZ w32 (ofZ w32 z)) (pos 0) ≡ t → ltZ z (pos 0) ≡ t
   tested l = ap (λ y. ltZ y (pos 0)) (sym same-narrow) ∙ l
 

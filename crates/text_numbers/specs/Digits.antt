@@ -1,4 +1,4 @@
--- Numbers as text in a base up to sixteen: the value of digits that are read, and the digits of a number that is written. Assumes nothing.
+-- Numbers as text in a base up to sixteen: the value of digits read, and the digits of a number written. Assumes nothing.
 use Prim.Native.Nat.{ℕ, zero, suc, _+_, _-_, _*_, _/_, _%_, min}
 use mathlib.Core.Bool.{cond}
 use mathlib.Core.List.{List, [], _∷_, _++_}
@@ -14,12 +14,12 @@ digitOf c = cond (ltb c 48) 16 (cond (ltb c 58) (c - 48) (cond (ltb c 97) 16 (co
 abbrev pub glyphOf : ℕ → ℕ
 glyphOf d = cond (ltb d 10) (48 + d) (87 + d)
 
--- what the bytes s say in base b, after digits that say v: refused at a byte that is no digit of the base, and only there
+-- the number that the bytes s spell in base b, after digits of value v: refused at a byte that is not a digit of the base, and only there
 unfoldable pub readOn : ℕ → ℕ → List ℕ → Digits
 readOn b v [] = Number v
 readOn b v (c ∷ s) = cond (ltb (digitOf c) b) (readOn b (v * b + digitOf c) s) Wrong
 
--- the same, with no number above the limit m: what is larger counts as m
+-- the same with a limit: a number above m counts as m
 abbrev pub capped : ℕ → Digits → Digits
 capped m (Number v) = Number (min v m)
 capped m Wrong = Wrong

@@ -1,4 +1,4 @@
--- What the bytes of one field say: a word, a number without a sign, a number with one. Assumes nothing.
+-- The meaning of one field: a word, a number without a sign, a number with one. Assumes nothing.
 use Prim.Native.Nat.{ℕ, min}
 use mathlib.Core.Bool.{Bool, false, cond}
 use mathlib.Core.List.{List}
@@ -18,19 +18,19 @@ abbrev pub fieldOf : Digits → Field
 fieldOf (Number v) = Value v
 fieldOf Wrong = Not WrongDigit
 
--- a word: as many digits in base sixteen as the width has, and no width has more than sixteen
+-- a word: as many digits in base sixteen as the width, which is at most sixteen
 unfoldable pub wordOf : ℕ → List ℕ → Field
 wordOf width s = cond (eqb (length s) width) (cond (ltb 16 width) (Not WrongLength) (fieldOf (readOn 16 0 s))) (Not WrongLength)
 
--- a zero stands before another digit
+-- a zero before another digit
 unfoldable pub leadsWithZero : List ℕ → Bool
 leadsWithZero s = cond (ltb 1 (length s)) (eqb (getD s 0 0) 48) false
 
--- a number without a sign: some digits, and no zero before another one
+-- a number without a sign: at least one digit, and no leading zero
 unfoldable pub naturalOf : List ℕ → Field
 naturalOf s = cond (eqb (length s) 0) (Not NoDigit) (cond (leadsWithZero s) (Not LeadingZero) (fieldOf (readOn 10 0 s)))
 
--- with no number above the limit m: what is larger counts as m
+-- with a limit: a number above m counts as m
 abbrev pub cappedField : ℕ → Field → Field
 cappedField m (Value v) = Value (min v m)
 cappedField m (Not f) = Not f
@@ -40,7 +40,7 @@ abbrev pub upTo : ℕ → Field → Field
 upTo most (Value v) = cond (ltb most v) (Not OutOfRange) (Value v)
 upTo most (Not f) = Not f
 
--- the number itself, and the number below zero
+-- the number itself, and its negative
 abbrev pub plusOf : Field → Signed
 plusOf (Value v) = cond (ltb 2147483647 v) (NoInteger OutOfRange) (Integer (pos v))
 plusOf (Not f) = NoInteger f
@@ -49,7 +49,7 @@ abbrev pub minusOf : Field → Signed
 minusOf (Value v) = cond (eqb v 0) (NoInteger MinusZero) (cond (ltb 2147483648 v) (NoInteger OutOfRange) (Integer (negℤ (pos v))))
 minusOf (Not f) = NoInteger f
 
--- a number with a sign: after `-` stands a number other than zero
+-- a number with a sign: `-` is followed by a number other than zero
 unfoldable pub signedOf : List ℕ → Signed
 signedOf s =
     cond (eqb (length s) 0) (NoInteger NoDigit)

@@ -35,7 +35,7 @@ fn glyph(d: u64) -> u8
     if d < 10 { 48 + d as u8 } else { 87 + d as u8 }
 }
 
-// What the whole of s says. Sixteen digits fit any base up to sixteen, so that no value wraps.
+// The number that all of s spells. At most sixteen digits, in a base up to sixteen, so no value wraps.
 pub fn read_digits(s: &[u8], base: u64) -> Digits
     requires { ⌜ (base ≤ 16) × (length (now s) ≤ 16) ⌝ }
     ensures { λ r. ⌜ r ≡ readOn base 0 (now (s .entry)) ⌝ }
@@ -53,7 +53,7 @@ pub fn read_digits(s: &[u8], base: u64) -> Digits
     Digits::Number(value)
 }
 
-// What the whole of s says in decimal, however long it is. A number above 4294967296 counts as that one.
+// The number that all of s spells in decimal, however long. A number above 4294967296 counts as that one.
 pub fn read_decimal(s: &[u8]) -> Digits
     ensures { λ r. ⌜ r ≡ capped 4294967296 (readOn 10 0 (now (s .entry))) ⌝ }
 {
@@ -76,7 +76,7 @@ fn at_most(v: u64, limit: u64) -> u64
     if v < limit { v } else { limit }
 }
 
-// Fills out with the last digits of n, as many as it has room for.
+// Fills out with the last digits of n.
 pub fn fill_digits(out: &mut [u8], base: u64, n: u64)
     requires { ⌜ (1 < base) × (base ≤ 16) ⌝ }
     ensures { λ _. ⌜ now (out .exit) ≡ digitsOf base (length (now (out .entry))) n ⌝ }

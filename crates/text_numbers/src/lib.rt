@@ -1,4 +1,4 @@
-// Numbers in text: digits, a field read, a field written.
+// Numbers in text: digits, fields read and fields written.
 pub mod digits;
 pub mod read;
 pub mod write;

@@ -1,4 +1,4 @@
-// One field of a line: a word in hexadecimal digits, a number in decimal ones.
+// Reads one field of a line: a word in hexadecimal digits, a number in decimal ones.
 ghost use mathlib.Core.Path.{_≡_};
 ghost use Prim.Native.Nat.{_≤_};
 ghost use Rattle.text_numbers.specs.Fields.{fieldOf, wordOf, leadsWithZero, naturalOf, cappedField, upTo, plusOf, minusOf, signedOf};
@@ -7,7 +7,7 @@ use crate::digits::Digits;
 use crate::digits::read_decimal;
 use crate::digits::read_digits;
 
-// What is wrong with a field.
+// The faults of a field.
 pub enum Fault {
     WrongLength,
     WrongDigit,
@@ -55,7 +55,7 @@ fn leads_with_zero(s: &[u8]) -> bool
     if s.len() > 1 { s[0] == 48 } else { false }
 }
 
-// A number without a sign; one above 4294967296 counts as that one, which no range has.
+// A number without a sign. A number above 4294967296 counts as that one, which is out of every range.
 fn decimal(s: &[u8]) -> Field
     ensures { λ r. ⌜ r ≡ cappedField 4294967296 (naturalOf (now (s .entry))) ⌝ }
 {

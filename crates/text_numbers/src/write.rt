@@ -1,5 +1,5 @@
-// Writing into a buffer that is lent: each writer puts its bytes at a offset and answers the offset after them; where they do not fit, it writes
-// nothing and answers the offset that it was given.
+// Writes into a borrowed buffer: each writer stores its bytes at an offset and returns the offset after them. Where they do not fit, it stores
+// nothing and returns the offset that it was given.
 ghost use mathlib.Core.Path.{_≡_};
 ghost use mathlib.Core.List.{_∷_};
 ghost use Prim.Native.Nat.{ℕ, _+_, _≤_, _<_};
@@ -70,7 +70,7 @@ fn digit_count(n: u64) -> usize
     k
 }
 
-// A number in as few decimal digits as hold it.
+// A number in as few decimal digits as possible.
 pub fn write_unsigned(out: &mut [u8], at: usize, n: u64) -> usize
     ensures { λ r. ⌜ ((k : ℕ) × Fewest n k × Placed (now (out .entry)) at (digitsOf 10 k n) (now (out .exit)) r) ⌝ }
 {
@@ -87,7 +87,7 @@ fn size_of(n: i32) -> u64
     }
 }
 
-// A number below zero, by its size. The digits go first, so that a minus never stands alone.
+// A negative number, by its absolute value. The digits are written first, so that a minus is never left alone.
 fn write_minus(out: &mut [u8], at: usize, size: u64) -> usize
     ensures { λ r. ⌜ ((k : ℕ) × Fewest size k × Placed (now (out .entry)) at (45 ∷ digitsOf 10 k size) (now (out .exit)) r) ⌝ }
 {
@@ -104,7 +104,7 @@ fn write_minus(out: &mut [u8], at: usize, size: u64) -> usize
     end
 }
 
-// A number with a minus before it where it is below zero.
+// A number, with a minus where it is negative.
 pub fn write_signed(out: &mut [u8], at: usize, n: i32) -> usize
     ensures { λ r. ⌜ ((k : ℕ) × Fewest (natAbs n) k × Placed (now (out .entry)) at (signedDigits n k) (now (out .exit)) r) ⌝ }
 {

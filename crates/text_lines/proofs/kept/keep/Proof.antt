@@ -1,4 +1,4 @@
--- `text_lines::kept::keep` meets its contract: by whether all bytes have room. Assumes nothing.
+-- `text_lines::kept::keep` meets its contract, by whether there is room for all bytes. Assumes nothing.
 use mathlib.Core.Path.{_≡_, sym}
 use Prim.Native.Nat.{_-_}
 use native.Mathlib.Omega.{arith}

@@ -1,5 +1,5 @@
 -- `text_lines::scan::find` meets its contract. The invariant: the first offset from i on is the first offset from `from` on.
--- The measure is what is left of the length. Assumes nothing.
+-- The measure is the rest of the length. Assumes nothing.
 use mathlib.Core.Path.{_≡_, refl, _∙_}
 use mathlib.Core.List.{[], _∷_}
 use Prim.Native.Nat.{_-_}

@@ -1,5 +1,5 @@
 -- `text_lines::scan::find_arrow` meets its contract. The invariant: the first offset from i on is the first of all.
--- The measure is what is left of the length. Assumes nothing.
+-- The measure is the rest of the length. Assumes nothing.
 use mathlib.Core.Path.{_≡_, refl, sym, _∙_}
 use Prim.Native.Nat.{_-_, _≤_}
 use native.Mathlib.Omega.{arith}

@@ -1,5 +1,5 @@
--- `text_lines::scan::has_blank_too_many` meets its contract. The invariant: two blanks stand side by side in what is left, with the blank before it,
--- where they do in all. The measure is what is left of the length. Assumes nothing.
+-- `text_lines::scan::has_blank_too_many` meets its contract. The invariant: two blanks are adjacent in the rest, with the blank before it, exactly
+-- where they are in the whole. The measure is the rest of the length. Assumes nothing.
 use mathlib.Core.Path.{_≡_, refl, _∙_}
 use mathlib.Core.Bool.{true, and-false}
 use mathlib.Core.Logic.{⊎-elim}

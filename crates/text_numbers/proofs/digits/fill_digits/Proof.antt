@@ -1,4 +1,4 @@
--- `text_numbers::digits::fill_digits` meets its contract. The invariant: the digits are those that are left to write, and then those that stand from i on.
+-- `text_numbers::digits::fill_digits` meets its contract. The invariant: the digits still to be written, followed by the bytes from i on, are all digits.
 -- The measure is i. Assumes nothing.
 use mathlib.Core.Path.{_≡_, refl, sym, _∙_}
 use mathlib.Core.List.{_++_}

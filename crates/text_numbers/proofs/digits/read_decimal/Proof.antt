@@ -1,5 +1,5 @@
--- `text_numbers::digits::read_decimal` meets its contract. The invariant: under the limit, the whole says what the rest says after the value so far,
--- and the value is within the limit. The measure is what is left of the length. Assumes nothing.
+-- `text_numbers::digits::read_decimal` meets its contract. The invariant: under the limit, the whole spells what the rest spells after the value so far,
+-- and the value is within the limit. The measure is the rest of the length. Assumes nothing.
 use mathlib.Core.Path.{_≡_, refl, sym, ap, _∙_}
 use Prim.Native.Nat.{ℕ, _+_, _*_, _-_, _≤_, min}
 use native.Mathlib.Omega.{arith}

@@ -1,5 +1,5 @@
--- `text_numbers::digits::read_digits` meets its contract. The invariant: the whole says what the rest says after the value so far, which has a digit
--- for each byte passed. The measure is what is left of the length. Assumes nothing.
+-- `text_numbers::digits::read_digits` meets its contract. The invariant: the whole spells what the rest spells after the value so far, which has a digit
+-- for each byte read. The measure is the rest of the length. Assumes nothing.
 use mathlib.Core.Path.{_≡_, refl, sym, _∙_}
 use Prim.Native.Nat.{_+_, _*_, _^_, _-_, _≤_, _<_}
 use native.Mathlib.Omega.{arith}
@@ -34,7 +34,7 @@ returns c =
     (at-loop .loop .inv .2
     ∙ read-other _ (at-loop .loop .value) (now (at-start .args .s)) (at-loop .loop .i) _ (at-digit .digit .ensures) (omega arith) (omega arith))
 
--- the value with the digit that was read has a digit more
+-- the value with the digit just read has one more digit
 bound : (c : tie.Else1 Inv-loop μ-loop)
     → c .before .before .before .before .loop .value * c .before .before .before .before .before .before .args .base + c .before .digit .result
     < 16 ^ (c .before .before .before .before .loop .i + 1)

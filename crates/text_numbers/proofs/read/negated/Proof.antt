@@ -1,4 +1,4 @@
--- `text_numbers::read::negated` meets its contract: what the machine makes is the number below zero. Assumes nothing.
+-- `text_numbers::read::negated` meets its contract: the machine computes the negative number (Signs). Assumes nothing.
 use native.Mathlib.Omega.{arith}
 use borrow.Author.Needs.{needs}
 use Rattle.text_numbers.proofs.Signs.{less-fits, narrow-fits, narrow-is}

@@ -1,4 +1,4 @@
--- `text_numbers::read::read_signed` meets its contract, by the same tests; the limit under which the number is read is above the range. Assumes nothing.
+-- `text_numbers::read::read_signed` meets its contract, by the same tests; the limit of the number read is above the range. Assumes nothing.
 use lib.ListN.{drop}
 use denote.Ref.{now}
 use borrow.Author.Tests.{eq-eqb, ne-eqb}

@@ -1,4 +1,4 @@
--- `text_numbers::read::read_unsigned` meets its contract: the limit under which the number is read is above the range. Assumes nothing.
+-- `text_numbers::read::read_unsigned` meets its contract: the limit of the number read is above the range. Assumes nothing.
 use denote.Ref.{now}
 use borrow.Author.Needs.{needs}
 use Rattle.text_numbers.specs.Fields.{naturalOf}

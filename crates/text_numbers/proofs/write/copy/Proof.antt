@@ -1,5 +1,5 @@
--- `text_numbers::write::copy` meets its contract. The invariant: the first i bytes of s stand where they belong, and nothing else is changed.
--- The measure is what is left of s. Assumes nothing.
+-- `text_numbers::write::copy` meets its contract. The invariant: the first i bytes of s are copied, and nothing else is changed.
+-- The measure is the rest of s. Assumes nothing.
 use mathlib.Core.Path.{_≡_, refl, ap, _∙_}
 use mathlib.Core.List.{List}
 use Prim.Native.Nat.{ℕ, _-_, _+_, _≤_}

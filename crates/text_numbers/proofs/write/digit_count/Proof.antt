@@ -1,5 +1,5 @@
--- `text_numbers::write::digit_count` meets its contract. The invariant: the rest is what n has beyond k digits, and k digits but one do not hold n.
--- The measure is the rest, and with it the count stays small. Assumes nothing.
+-- `text_numbers::write::digit_count` meets its contract. The invariant: the rest is n without its last k digits, and k - 1 digits do not hold n.
+-- The measure is the rest, which keeps the count small. Assumes nothing.
 use mathlib.Core.Path.{_≡_, refl}
 use Prim.Native.Nat.{_-_, _+_, _/_, _^_, _≤_, _<_}
 use native.Mathlib.Omega.{arith}

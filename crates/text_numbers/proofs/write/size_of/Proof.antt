@@ -1,4 +1,4 @@
--- `text_numbers::write::size_of` meets its contract: what the machine makes of the number is its size. Assumes nothing.
+-- `text_numbers::write::size_of` meets its contract: the machine computes the absolute value of the number (Signs). Assumes nothing.
 use Rattle.text_numbers.proofs.Signs.{wide-fits, minus-fits, size-plus, size-fits, size-is, plain-plus, plain-fits, plain-is}
 use Rattle.text_numbers.proofs.write.size_of.Statement.{statement}
 use Rattle.text_numbers.proofs.write.size_of.Tie as tie

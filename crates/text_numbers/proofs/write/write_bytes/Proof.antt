@@ -1,4 +1,4 @@
--- `text_numbers::write::write_bytes` meets its contract: where the bytes do not fit nothing is written, and else they are copied. Assumes nothing.
+-- `text_numbers::write::write_bytes` meets its contract: where the bytes do not fit nothing is written, otherwise they are copied. Assumes nothing.
 use mathlib.Core.Path.{refl}
 use native.Mathlib.Omega.{arith}
 use denote.Ref.{now}

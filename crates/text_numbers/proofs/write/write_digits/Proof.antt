@@ -1,4 +1,4 @@
--- `text_numbers::write::write_digits` meets its contract: where the digits do not fit nothing is written, and else the part that was lent is filled. Assumes nothing.
+-- `text_numbers::write::write_digits` meets its contract: where the digits do not fit nothing is written, otherwise the borrowed part is filled. Assumes nothing.
 use native.Mathlib.Omega.{arith}
 use denote.Ref.{now}
 use borrow.Author.Needs.{needs}

@@ -1,4 +1,4 @@
--- `text_numbers::write::write_minus` meets its contract: the digits stand one byte on, or do not fit, and then the minus does not either. Assumes nothing.
+-- `text_numbers::write::write_minus` meets its contract: the digits are one byte further on, or do not fit, and then nor does the minus. Assumes nothing.
 use mathlib.Core.List.{_∷_}
 use native.Mathlib.Omega.{arith}
 use borrow.Author.Needs.{needs}
