@@ -1,4 +1,4 @@
--- Each name of the table finds its own row, so that no two operations have one name. Assumes nothing.
+-- Each name of the table finds its own row, so no two operations share a name. Assumes nothing.
 use mathlib.Core.Path.{_≡_, _∙_}
 use mathlib.Core.Bool.{Bool, true, _&&_}
 use mathlib.Core.List.{List, [], _∷_}

@@ -1,4 +1,4 @@
--- Laws of walking down a table of names: where a name ends, what stands there, and where the next row begins. Assumes nothing.
+-- Laws of walking down a table of names: the end of a name, the bytes there, and the start of the next row. Assumes nothing.
 use mathlib.Core.Path.{_≡_, refl, sym, ap, _∙_}
 use mathlib.Core.Bool.{Bool, true, false, cond, _&&_, not}
 use mathlib.Core.List.{List, [], _∷_, _++_, append-assoc}
@@ -11,7 +11,7 @@ use borrow.Author.Tests.{le-leb}
 use Rattle.text_lines.specs.Offsets.{starts, ahead, offsetOf, partOf}
 use Rattle.cmd_operations.specs.Naming.{Named, lineOf, textOf, without, clean, same, rowIn}
 
--- an offset that is found is not before the one where the search began
+-- a search finds no offset before its start
 pub found-after : (p s : List ℕ) (from : ℕ) → from ≤ length s → from ≤ offsetOf p s from
 unfolding offsetOf
 found-after p s from h = omega arith
@@ -57,7 +57,7 @@ by-test false never = refl
 pub same-is-not : (s t : List ℕ) → (s ≡ t → ⊥) → same s t ≡ false
 same-is-not s t never = by-test (same s t) (λ h. never (same-eq s t h))
 
--- ---- where a name ends
+-- ---- the end of a name
 
 ahead-step : (b c : ℕ) (s : List ℕ) (t : Bool) → T (not t) → t ≡ eqb c b → ahead (b ∷ []) (c ∷ s) ≡ suc (ahead (b ∷ []) s)
 unfolding ahead starts
@@ -87,7 +87,7 @@ module _ (b : ℕ) (before u rest : List ℕ) (free : T (without b u)) where
 
 -- ---- down the rows
 
--- n rows lie behind, and the next one stands at the offset `at`
+-- n rows lie behind, and the next one is at the offset `at`
 pub record Walk (rs : List Named) (s table : List ℕ) (n at : ℕ) : Type 0 where
   pub before : List ℕ
   pub rest : List Named
@@ -150,7 +150,7 @@ module _ (s : List ℕ) (n at end : ℕ) where
       let named : s ≡ r .name = cc (name-stands before r rs tidy) in
       rw (same-is s (r .name) named, where-to)
 
-  -- and at another one
+  -- at another row
   passed : (all : List Named) (before : List ℕ) (rest : List Named) → T (clean rest) → at ≡ length before → at < length (before ++ textOf rest)
       → end ≡ offsetOf (32 ∷ []) (before ++ textOf rest) at → (s ≡ partOf (before ++ textOf rest) at end → ⊥)
       → rowIn s all 0 0 ≡ rowIn s rest n at → Walk all s (before ++ textOf rest) (n + 1) (end + 9)

@@ -1,4 +1,4 @@
--- Tables of names as text, and the row that a name has in one. Assumes nothing.
+-- Tables of names as text, and the row of a name in one. Assumes nothing.
 use Prim.Native.Nat.{ℕ, _+_}
 use Prim.Native.Char.{code}
 use Prim.Native.String.{String, [] as ε, _∷_ as _▹_}
@@ -12,7 +12,7 @@ abbrev pub bytesOf : String → List ℕ
 bytesOf ε = []
 bytesOf (c ▹ s) = code c ∷ bytesOf s
 
--- a name, and the kinds of what goes with it
+-- a name, and the kinds that go with it
 pub record Named : Type 0 where
   pub name : List ℕ
   pub kinds : List ℕ
@@ -41,7 +41,7 @@ same [] (b ∷ t) = false
 same (a ∷ s) [] = false
 same (a ∷ s) (b ∷ t) = eqb a b && same s t
 
--- the row of the name s: its number, where the first row has n, and the offset of its kinds, where the first row stands at `at`; past the last row where no
+-- the row of the name s: its number, where the first row has n, and the offset of its kinds, where the first row is at `at`; past the last row where no
 -- row has that name
 unfoldable pub rowIn : List ℕ → List Named → ℕ → ℕ → Row
 rowIn s [] n at = record { number = n; kinds = at }

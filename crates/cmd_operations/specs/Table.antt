@@ -39,7 +39,7 @@ pub record Operation : Type 0 where
 abbrev pub operation : String → String → (Operands → Answers) → Operation
 operation name kinds answers = record { row = record { name = bytesOf name; kinds = bytesOf kinds }; answers = answers }
 
--- in the order of their numbers; crates/cmd_operations/src/table.rt says what the kinds are
+-- in the order of their numbers; crates/cmd_operations/src/table.rt explains the kinds
 abbrev pub operations : List Operation
 operations =
     operation "floor64" "W-- WF-" (λ a. two (floorOf b64 (a .x)) (floorStatus b64 (a .x)))
@@ -67,18 +67,18 @@ rowsOf (o ∷ os) = o .row ∷ rowsOf os
 unfoldable pub rowOf : List ℕ → Row
 rowOf s = rowIn s (rowsOf operations) 0 0
 
--- what the table has at an index: past its end, nothing
+-- the byte of the table at an offset; past its end, nothing
 unfoldable pub kindAt : ℕ → ℕ
 kindAt index = getD (textOf (rowsOf operations)) index 0
 
 abbrev pub unnamed : Operation
 unnamed = operation "" "" (λ a. two 0 0)
 
--- what the operation of that number gives for the operands; under any other number, nothing
+-- the answers of the operation of that number for the operands; for any other number, nothing
 unfoldable pub answersOf : ℕ → Operands → Answers
 answersOf number a = getD operations number unnamed .answers a
 
--- the attributes of rounding, by the name and number that docs/LINES.md has
+-- the attributes of rounding, by name and number as in docs/LINES.md
 abbrev pub attributes : List Named
 attributes = named "even" ∷ named "zero" ∷ named "down" ∷ named "up" ∷ named "away" ∷ []
   where

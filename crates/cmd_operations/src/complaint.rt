@@ -1,12 +1,12 @@
-// What is wrong with a line, as a line to be written.
+// A complaint about a line, as a line to be written.
 use crate::line::Line;
 use crate::line::with_count;
 use crate::line::with_names;
 use crate::line::with_text;
 use crate::text::Text;
 
-// Why a line is no request, by a text, or FINE. An operand is named by its number, from 1 on, with what is wrong with it, by a text too, how many
-// characters it has, and the kind that it should have.
+// Why a line is not a request, as the number of a text, or FINE. For an operand: its number, from 1 on, the text of its fault, its length in
+// characters, and the kind expected.
 pub struct Complaint {
     pub what: u8,
     pub index: u64,
@@ -27,7 +27,7 @@ pub fn complaint_of(what: u8) -> Complaint {
     }
 }
 
-// What every complaint begins with.
+// The start of every complaint.
 pub fn with_start(l: Line, number: u64) -> Line {
     with_count(l, Text::ErrorLine as u8, number, Text::Colon as u8)
 }
@@ -43,17 +43,17 @@ fn kind_text(kind: u8) -> u8 {
     }
 }
 
-// And what it ends with: how the field is to be written.
+// The end of a complaint: how the field is to be written.
 pub fn with_expected(l: Line, kind: u8) -> Line {
     with_text(with_text(l, Text::Expected as u8), kind_text(kind))
 }
 
-// One text for 1, and another for more.
+// One text for 1, another for more.
 fn counted(n: u64, one: u8, more: u8) -> u8 {
     if n == 1 { one } else { more }
 }
 
-// What is wrong with a field of `size` characters.
+// The fault of a field of `size` characters.
 pub fn with_fault(l: Line, fault: u8, size: u64) -> Line {
     if fault == Text::Has as u8 {
         let characters = counted(size, Text::Character as u8, Text::Characters as u8);
@@ -72,7 +72,7 @@ fn with_operand(l: Line, c: Complaint) -> Line {
     with_expected(with_fault(m, c.fault, c.size), c.kind)
 }
 
-// What is wrong with a line that is no request.
+// The complaint about a line that is not a request.
 pub fn with_complaint(l: Line, c: Complaint) -> Line {
     if c.index > 0 {
         return with_operand(l, c);

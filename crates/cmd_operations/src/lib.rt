@@ -1,17 +1,17 @@
-// The operations by name, requests read by them, and answers and complaints as lines to be written.
+// The operations by name, requests read, and answers and complaints as lines to be written.
 //
 // To add an operation: its row in `TABLE` (table.rt); the same row, with the definition that answers it, in specs/Table.antt; its call in `answer_of`
 // (crates/pk/src/call.rt); and its line in the list below, which `./pk --help` prints.
 //
-//   floor64 X           floor64 c004000000000000                      the greatest whole number that is not above X
+//   floor64 X           floor64 c004000000000000                      the greatest whole number not above X
 //   floor32 X           floor32 bf000000
 //   trunc64 X           trunc64 bfe8000000000000                      X without its fraction
 //   trunc32 X           trunc32 40200000
 //   scalbn64 X N        scalbn64 3ff8000000000000 -1075               X times 2^N, rounded once
 //   scalbn32 X N        scalbn32 3f800000 128
-//   fmod64 X Y          fmod64 4016000000000000 4000000000000000      what is left of X by Y, taken off toward zero
+//   fmod64 X Y          fmod64 4016000000000000 4000000000000000      the remainder of X by Y, toward zero
 //   fmod32 X Y          fmod32 c0800000 40000000
-//   remquo64 X Y        remquo64 c01c000000000000 4000000000000000    what is left of X by the nearest multiple of Y, and which one, modulo 2^31
+//   remquo64 X Y        remquo64 c01c000000000000 4000000000000000    the remainder of X by the nearest multiple of Y, and its number modulo 2^31
 //   reduce64 X SHIFT Y  reduce64 0000000000000005 3 0000000000000007  0 or a refusal, and the plain number (X times 2^SHIFT) mod Y
 //   reduce32 X SHIFT Y  reduce32 00000005 3 00000000
 //   sqrt64 X            sqrt64 4000000000000000                       the root of X, rounded once

@@ -1,4 +1,4 @@
-// A line that is to be written, as a value: its pieces, which one loop writes.
+// A line to be written, as a value: its pieces, which one loop writes.
 use crate::table::Row;
 use crate::table::given;
 use crate::table::write_names;
@@ -8,16 +8,16 @@ use text_lines::write_signed;
 use text_lines::write_unsigned;
 use text_lines::write_word;
 
-// Up to sixteen pieces. A piece is a value, by the letter of its kind in the table; all names of that table, by a star; or a text.
+// Up to sixteen pieces. A piece is a value, by the letter of its kind in the table; a star, for all names of that table; or a text.
 pub struct Line {
     pub codes: [u8; 16],
     pub values: [u64; 16],
     pub count: usize,
-    // The signed number, where there is one.
+    // The signed number, if there is one.
     pub n: i32,
 }
 
-// What an operation gives: words and numbers by their index, and the signed number if there is one.
+// The answers of an operation: words and numbers by their index, and the signed number if there is one.
 pub struct Answers {
     pub x: u64,
     pub y: u64,
@@ -25,7 +25,7 @@ pub struct Answers {
     pub n: i32,
 }
 
-// What a text's number is added to.
+// Added to the number of a text.
 const TEXT: u8 = 128;
 
 pub fn empty() -> Line {
@@ -59,12 +59,12 @@ pub fn with_number(l: Line, n: u64) -> Line {
     with_piece(l, b'U', n)
 }
 
-// A number with a text before it and one after it.
+// A number with a text before it and one after.
 pub fn with_count(l: Line, before: u8, n: u64, after: u8) -> Line {
     with_text(with_number(with_text(l, before), n), after)
 }
 
-// The name of a flag, where its bit is set: after a plus, unless it is the first.
+// The name of a flag whose bit is set: after a plus, unless it is the first.
 fn with_flag(l: Line, flags: u64, bit: u64, name: u8) -> Line {
     if flags & bit == 0 {
         return l;
@@ -75,7 +75,7 @@ fn with_flag(l: Line, flags: u64, bit: u64, name: u8) -> Line {
     with_text(with_text(l, Text::Plus as u8), name)
 }
 
-// The flags that are raised, by the bits that libm has for them.
+// The names of the raised flags, by libm's bits.
 fn with_flags(l: Line, word: u64) -> Line {
     let flags = word & 61;
     if flags == 0 {
@@ -96,7 +96,7 @@ fn with_answer(l: Line, kind: u8, value: u64) -> Line {
     }
 }
 
-// What an operation gave, in the kinds of its row.
+// The answers of an operation, in the kinds of its row.
 pub fn with_answers(mut l: Line, row: Row, a: Answers) -> Line {
     l.n = a.n;
     let arrow = with_text(l, Text::Arrow as u8);

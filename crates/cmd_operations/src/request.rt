@@ -1,4 +1,4 @@
-// Reading a request: an operation's name, then its operands.
+// Reads a request: an operation's name, then its operands.
 use crate::complaint::Complaint;
 use crate::complaint::FINE;
 use crate::complaint::complaint_of;
@@ -18,7 +18,7 @@ use text_lines::read_signed;
 use text_lines::read_unsigned;
 use text_lines::read_word;
 
-// The operands of a request: words, numbers and the length of a text by their index; the signed number and the attribute, if there is one.
+// The operands of a request: words, numbers and the length of a text by their index; the signed number and the attribute, if any.
 pub struct Operands {
     pub x: u64,
     pub y: u64,
@@ -27,14 +27,14 @@ pub struct Operands {
     pub attribute: u64,
 }
 
-// What a line asks, where its complaint is `FINE`.
+// The request of a line, where its complaint is `FINE`.
 pub struct Request {
     pub row: Row,
     pub operands: Operands,
     pub complaint: Complaint,
 }
 
-// A field read: its value or signed number; or what is wrong with it.
+// A field read: its value or signed number, or its fault.
 struct Taken {
     value: u64,
     n: i32,
@@ -87,7 +87,7 @@ fn read_attribute(f: &[u8]) -> Taken {
     of_field(read_unsigned(f))
 }
 
-// A text may be anything: its length is taken.
+// A text may be anything; its length is its value.
 fn read_field(f: &[u8], kind: u8) -> Taken {
     match kind {
         b'W' => of_field(read_word(f, 16)),
@@ -121,7 +121,7 @@ fn complain(mut r: Request, what: u8, index: usize, kind: u8) -> Request {
     r
 }
 
-// The request with one operand more, or with what is wrong with it.
+// The request with one more operand, or with the operand's fault.
 fn with_operand(mut r: Request, t: Taken, kind: u8, index: usize, size: usize) -> Request {
     if t.fault != FINE {
         let mut bad = complain(r, t.fault, index, kind);
@@ -147,7 +147,7 @@ fn with_operand(mut r: Request, t: Taken, kind: u8, index: usize, size: usize) -
     r
 }
 
-// The end of the operand that begins at an index.
+// The end of the operand that begins at the offset `begin`.
 fn end_of(s: &[u8], begin: usize, kind: u8) -> usize {
     if kind == b'T' {
         return s.len();
@@ -155,7 +155,7 @@ fn end_of(s: &[u8], begin: usize, kind: u8) -> usize {
     find(s, begin, b' ')
 }
 
-// The operands, each after a blank, from where the name ends.
+// Reads the operands, each after a blank, from the end of the name.
 fn read_operands(s: &[u8], first: Request, from: usize) -> Request {
     let mut r = first;
     let mut at = from;
@@ -183,7 +183,7 @@ fn read_operands(s: &[u8], first: Request, from: usize) -> Request {
     r
 }
 
-// The attribute after the dot that ends a name.
+// Reads the attribute after the dot that ends a name.
 fn with_attribute(mut r: Request, f: &[u8]) -> Request {
     let t = read_attribute(f);
     if t.fault != FINE {
@@ -198,12 +198,12 @@ fn with_attribute(mut r: Request, f: &[u8]) -> Request {
     r
 }
 
-// Where the name ends: after the first dot, where one stands before `end`.
+// The end of the name: after the first dot, if there is one before `end`.
 fn name_end(dot: usize, end: usize) -> usize {
     if dot < end { dot + 1 } else { end }
 }
 
-// What is wrong with the fields of s, before a text, whatever they say.
+// The first fault of the fields in s, before their values are read. s ends before a text.
 fn flaw_of(s: &[u8], row: Row) -> u8 {
     if find(s, 0, b'\r') < s.len() {
         return Text::CarriageReturn as u8;
@@ -217,7 +217,7 @@ fn flaw_of(s: &[u8], row: Row) -> u8 {
     Text::Unknown as u8
 }
 
-// Where the fields end: a text is no field, and goes on to the end.
+// The end of the fields: a text is not a field, and runs to the end.
 fn fields_end(s: &[u8], row: Row, end: usize) -> usize {
     if taken(row, 0) == b'T' {
         return end;
@@ -225,7 +225,7 @@ fn fields_end(s: &[u8], row: Row, end: usize) -> usize {
     s.len()
 }
 
-// What the whole of s asks.
+// Reads the request in s.
 pub fn read_request(s: &[u8]) -> Request {
     let end = find(s, 0, b' ');
     let dot = find(s, 0, b'.');

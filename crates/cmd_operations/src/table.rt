@@ -1,4 +1,4 @@
-// The table of the operations: their names, and the kinds of what they take and give.
+// The table of the operations: their names, and the kinds of their operands and answers.
 ghost use mathlib.Core.Path.{_≡_};
 ghost use Prim.Native.Nat.{_≤_};
 ghost use lib.Dec.{T};
@@ -12,8 +12,8 @@ use text_lines::write_bytes;
 
 const SIZE: usize = 237;
 
-// A row for each operation: its name, of any length, the kinds of up to three operands and those of up to three answers. A name that ends in a dot takes
-// an attribute after it. An operation's number is that of its row, from 0 on.
+// A row for each operation: its name, of any length, the kinds of up to three operands and of up to three answers. A name that ends in a dot is followed
+// by an attribute. An operation's number is that of its row, from 0 on.
 //     W  a word of 64 bits    N  a signed number       T  a text, as the only operand
 //     w  a word of 32 bits    U  an unsigned number    F  flags    -  nothing
 const TABLE: [u8; SIZE] = *b"floor64 W-- WF-
@@ -41,16 +41,16 @@ up --- ---
 away --- ---
 ";
 
-// From the end of a name to the next row's: a blank, the kinds with a blank between them, and a line feed.
+// From the end of a name to the next row: a blank, the kinds with a blank between them, and a line feed.
 const STEP: usize = 9;
 
-// The number of a row, and the offset of its kinds in the table. Past the last row stands the row of what is not named.
+// The number of a row, and the offset of its kinds in the table. An unknown name has the row past the last.
 pub struct Row {
     pub number: usize,
     pub kinds: usize,
 }
 
-// The row that the name s has in a table.
+// The row of the name s in a table.
 fn find_row(table: &[u8], s: &[u8]) -> Row
     requires { ⌜ length (now table) ≤ 65536 ⌝ }
     ensures { λ r. ⌜ ((rs : List Named) → T (clean rs) → now (table .entry) ≡ textOf rs → r ≡ rowIn (now (s .entry)) rs 0 0) ⌝ }
@@ -113,7 +113,7 @@ pub fn given(row: Row, index: usize) -> u8 {
     b'-'
 }
 
-// What the table has at an index.
+// The byte of the table at an offset.
 fn kind_at(index: usize) -> u8
     ensures { λ r. ⌜ r ≡ kindAt index ⌝ }
 {
@@ -123,7 +123,7 @@ fn kind_at(index: usize) -> u8
     0
 }
 
-// The names of all operations, each after a blank.
+// Writes the names of all operations, each after a blank.
 pub fn write_names(out: &mut [u8], at: usize) -> usize {
     let table = TABLE;
     let mut end = at;

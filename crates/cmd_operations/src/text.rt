@@ -1,4 +1,4 @@
-// Every text that is written, said once.
+// All texts that the programs write.
 use text_lines::find;
 use text_lines::part;
 use text_lines::write_bytes;
@@ -60,7 +60,7 @@ pub enum Text {
     OfThemBad,
 }
 
-// A text ends before a bar. One is found from the start, so those that lines have most stand first.
+// A text ends before a bar. The search runs from the start, so the most frequent texts come first.
 const TEXTS: [u8; 1132] = *b" ->|
  |
 OK|
@@ -116,7 +116,7 @@ pk: |
  of them bad|
 ";
 
-// Where the text of that number begins.
+// The offset of the text of that number.
 fn start_of(texts: &[u8], number: u8) -> usize {
     let mut at = 0;
     let mut before = number;

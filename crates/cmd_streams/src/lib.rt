@@ -1,17 +1,17 @@
-// Standard input and output of the programs behind ./pk: what is read and written, what is said where that fails, and the verdict at the end.
+// Standard input and output of the programs, messages where they fail, and the verdict at the end.
 use libc::STDERR_FILENO;
 use libc::STDIN_FILENO;
 use libc::STDOUT_FILENO;
 use text_lines::Field;
 
-// Where a number that says what to do comes from.
+// The descriptor that the operation's number is read from.
 const ORDER: i32 = 5;
 
-// Where the number of bad lines goes. Without that number the run did not come to its end.
+// The descriptor that the number of bad lines is written to. Without that number the run did not finish.
 const VERDICT: i32 = 3;
 
 pub struct Streams {
-    // The bytes of the output that are still to be written.
+    // The bytes of output not yet written.
     pub used: usize,
     // Whether there is more to read.
     pub is_open: bool,
@@ -19,7 +19,7 @@ pub struct Streams {
     pub is_broken: bool,
 }
 
-// What one read gave: how many bytes, none where the input ended or could not be read.
+// The result of one read: the number of bytes, 0 where the input ended or could not be read.
 pub struct Taken {
     pub streams: Streams,
     pub count: usize,
@@ -44,7 +44,7 @@ pub fn broken(mut s: Streams) -> Streams {
     s
 }
 
-// Writes out what is still to be written.
+// Writes out the pending output.
 pub fn flush(mut s: Streams, out: &[u8; 65536]) -> Streams {
     let used = s.used;
     s.used = 0;
@@ -95,7 +95,7 @@ pub fn take(mut s: Streams, input: &mut [u8; 65536]) -> Taken {
     }
 }
 
-// Writes out what is left, and then, unless anything failed, the number of bad lines.
+// Writes out the rest, and then, unless anything failed, the number of bad lines.
 pub fn close(s: Streams, out: &[u8; 65536], bad: u64) {
     let t = flush(s, out);
     if t.is_broken {
@@ -105,7 +105,7 @@ pub fn close(s: Streams, out: &[u8; 65536], bad: u64) {
     io::write_all(VERDICT, b"\n");
 }
 
-// The number of what is asked: decimal digits, up to a line feed or the end.
+// Reads the operation's number: decimal digits, up to a line feed or the end.
 pub fn read_number() -> Asked {
     let mut text = [0u8; 16];
     let got = libc::read(ORDER, &mut text);

@@ -1,4 +1,4 @@
--- `cmd_operations::table::find_row` meets its contract. The invariant: the rows before the offset do not have the name. Assumes nothing.
+-- `cmd_operations::table::find_row` meets its contract. The invariant: no row before the offset has the name. Assumes nothing.
 use mathlib.Core.Path.{_≡_, sym, _∙_}
 use mathlib.Core.Bool.{true≢false}
 use mathlib.Core.List.{List, [], _∷_}

@@ -1,4 +1,4 @@
--- `cmd_operations::table::row_of` meets its contract: the table of the code is the text of the definition's. Assumes nothing.
+-- `cmd_operations::table::row_of` meets its contract: the table of the code is the text of the definition. Assumes nothing.
 use mathlib.Core.Path.{refl}
 use borrow.Author.Needs.{needs}
 use Rattle.cmd_operations.specs.Naming.{clean, without, textOf}
