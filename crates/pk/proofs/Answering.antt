@@ -1,4 +1,4 @@
--- What the table has under a number is what the calls gave. Assumes nothing.
+-- The table's definition of an operation is the result of its call. Assumes nothing.
 use mathlib.Core.Path.{_≡_, sym, ap}
 use mathlib.Core.List.{List}
 use Prim.Native.Nat.{ℕ, zero, suc, _≤_}

@@ -1,4 +1,4 @@
-// The calls: each operation of the library under its number in the table.
+// The calls: each operation of the library by its number in the table.
 ghost use mathlib.Core.Path.{_≡_};
 ghost use Rattle.cmd_operations.specs.Table.{one, two, signed, answersOf};
 use cmd_operations::line::Answers;
@@ -7,7 +7,7 @@ use cmd_operations::request::Operands;
 pub fn answer_of(number: usize, a: Operands) -> Answers
     ensures { λ r. ⌜ r ≡ answersOf number a ⌝ }
 {
-    // Words of 32 bits were read from eight digits, and unsigned numbers within their range, so that nothing is lost.
+    // A 32-bit word was read from eight digits, and an unsigned number within its range, so the casts lose nothing.
     let x = (a.x % 4294967296) as u32;
     let y = (a.y % 4294967296) as u32;
     let z = (a.z % 4294967296) as u32;

@@ -1,4 +1,4 @@
-// Answers the requests on standard input, one line of output for each line of input, and then writes how many lines were bad, as the verdict.
+// Answers the requests on standard input, one line for each, and then writes the number of bad lines.
 mod call;
 mod reply;
 
@@ -9,11 +9,11 @@ use text_lines::Kept;
 const ROOM: usize = 1024;
 
 struct State {
-    // What is kept of the line at hand.
+    // The kept part of the current line.
     kept: Kept,
-    // Whether it is a comment, which goes out as it comes.
+    // Whether it is a comment, which is copied.
     is_comment: bool,
-    // The lines that have ended, and those of them that were bad.
+    // The lines that have ended, and how many of them were bad.
     ended: u64,
     bad: u64,
     streams: Streams,
@@ -38,7 +38,7 @@ fn pass_on(mut s: State, out: &mut [u8; 65536], bytes: &[u8]) -> State {
     s
 }
 
-// Answers the line at hand, unless it is empty or a comment, and ends it.
+// Answers the current line, unless it is empty or a comment, and ends it.
 fn end_line(mut s: State, line: &[u8; 128], out: &mut [u8; 65536]) -> State {
     let streams = s.streams;
     let mut t = cmd_streams::reserve(streams, out, ROOM);
@@ -79,7 +79,7 @@ fn starts_comment(s: State, bytes: &[u8]) -> bool {
     bytes[0] == b'#'
 }
 
-// Takes a part of the line at hand.
+// Takes a part of the current line.
 fn take_part(mut s: State, line: &mut [u8; 128], out: &mut [u8; 65536], bytes: &[u8]) -> State {
     if starts_comment(s, bytes) {
         s.is_comment = true;
@@ -109,7 +109,7 @@ fn take_lines(s: State, line: &mut [u8; 128], out: &mut [u8; 65536], bytes: &[u8
     t
 }
 
-// Reads once, and writes out what that made complete.
+// Reads once, and answers the lines that are complete.
 fn turn(
     mut s: State,
     line: &mut [u8; 128],
@@ -127,7 +127,7 @@ fn turn(
     t
 }
 
-// A proved loop has to end, and nothing says that the input does. So the loop counts its turns down, from a number that no run uses up.
+// A proved loop must end, and the input need not. So the loop counts its turns down, from a number that no run exhausts.
 fn run(line: &mut [u8; 128], out: &mut [u8; 65536], input: &mut [u8; 65536]) -> State {
     let mut s = start();
     let mut turns = u64::MAX;

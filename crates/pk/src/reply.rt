@@ -1,4 +1,4 @@
-// The answered line, or the line that says what is wrong with a request.
+// The answered line, or the complaint about a request.
 use crate::call::answer_of;
 use cmd_operations::complaint::Complaint;
 use cmd_operations::complaint::FINE;
@@ -15,7 +15,7 @@ use text_lines::find_arrow;
 use text_lines::part;
 use text_lines::write_bytes;
 
-// What was written: the offset after it, and whether it says that the line is bad.
+// What was written: the offset after it, and whether the line is bad.
 pub struct Reply {
     pub end: usize,
     pub is_bad: bool,
@@ -38,7 +38,7 @@ fn answer(out: &mut [u8], at: usize, asked: &[u8], r: Request) -> Reply {
     }
 }
 
-// Answers the line number `number`, of which s is the whole or, where `is_long`, the first part, from the offset at on.
+// Answers the line number `number`, of which s is all or, where `is_long`, the first part. Writes from the offset at on.
 pub fn write_reply(out: &mut [u8], at: usize, s: &[u8], is_long: bool, number: u64) -> Reply {
     let arrow = find_arrow(s);
     if is_long {

@@ -1,4 +1,4 @@
--- What a line is as a place of a list. Assumes nothing.
+-- A line as a place of a list. Assumes nothing.
 use mathlib.Core.Path.{_≡_}
 use mathlib.Core.List.{List}
 use Prim.Native.Nat.{ℕ, _<_}

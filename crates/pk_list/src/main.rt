@@ -1,9 +1,9 @@
-// Re-signs a list: reads one pattern a line from standard input, answers the lines by the list call, and writes one line for each, in order; then
-// writes how many lines were bad, as the verdict.
+// Re-signs a list: reads one pattern a line, and writes one line for each, in order, by the list call.
+// Then it writes the number of bad lines, as the verdict.
 //
-// The list call takes a piece at a time: the lines that one read completes, and of these at most 8,192. A line that is no pattern keeps its place in
-// the piece, with a mark beside it. The operation's number comes on descriptor 5, and is read once there is something to answer. It is handed on as
-// it is: the list call judges it.
+// The list call takes a piece at a time: the lines that one read completes, at most 8,192 of them. A line that is not a pattern keeps its place in
+// the piece, with a mark beside it. The operation's number is read from descriptor 5 once there is something to answer, and passed on
+// unchecked: the list call judges it.
 ghost use mathlib.Core.Path.{_≡_};
 ghost use Prim.Native.Nat.{_≤_, _<_};
 
@@ -19,20 +19,20 @@ use text_lines::Kept;
 // The most places of a piece.
 const PLACES: usize = 8192;
 
-// How many lines are answered between two words on how far the run is.
+// How many lines are answered between two progress lines.
 const STRETCH: u64 = 10000000;
 
 struct State {
-    // What is kept of the line at hand, and how many bytes it has so far.
+    // The kept part of the current line, and how many bytes it has so far.
     kept: Kept,
     size: usize,
-    // The places of the piece at hand that are filled.
+    // The filled places of the current piece.
     filled: usize,
-    // The pieces and the lines that have been answered, and those of the lines that were bad.
+    // The pieces and the lines answered, and how many of the lines were bad.
     pieces: u64,
     answered: u64,
     bad: u64,
-    // The bytes of the read at hand.
+    // The bytes of the current read.
     count: usize,
     streams: Streams,
 }
@@ -53,7 +53,7 @@ fn start(first: Taken) -> State
     }
 }
 
-// Counts the lines of the piece at hand as answered, and says how far the run is where that ends a stretch.
+// Counts the lines of the current piece as answered, and reports progress at the end of a stretch.
 fn count_lines(mut s: State, bad: u64) -> State
     ensures { λ r. ⌜ r .filled ≡ 0 ⌝ }
 {
@@ -68,7 +68,7 @@ fn count_lines(mut s: State, bad: u64) -> State
     s
 }
 
-// Hands the piece at hand to the list call, and answers its lines.
+// Passes the current piece to the list call, and answers its lines.
 fn end_piece(
     mut s: State,
     op: u32,
@@ -97,7 +97,7 @@ fn end_piece(
     count_lines(s, answered.bad)
 }
 
-// Keeps a part of the line at hand.
+// Keeps a part of the current line.
 fn keep(mut s: State, line: &mut [u8; 128], bytes: &[u8]) -> State
     ensures { λ r. ⌜ r .filled ≡ s .filled ⌝ }
 {
@@ -108,7 +108,7 @@ fn keep(mut s: State, line: &mut [u8; 128], bytes: &[u8]) -> State
     s
 }
 
-// Ends the line at hand, which fills the next place, and hands on the piece where it is full then.
+// Ends the current line, which fills the next place, and ends the piece where it is then full.
 fn end_line(
     mut s: State,
     op: u32,
@@ -162,7 +162,7 @@ fn take_lines(
     t
 }
 
-// Writes out what is answered, and reads once more.
+// Writes out the answers, and reads once more.
 fn read_on(mut s: State, out: &[u8; 65536], input: &mut [u8; 65536]) -> State
     ensures { λ r. ⌜ r .filled ≡ s .filled ⌝ }
 {
@@ -174,7 +174,7 @@ fn read_on(mut s: State, out: &[u8; 65536], input: &mut [u8; 65536]) -> State
     s
 }
 
-// Answers the lines that the read at hand completes, and reads on.
+// Answers the lines that the current read completes, and reads on.
 fn turn(
     s: State,
     op: u32,
@@ -209,7 +209,7 @@ fn broken(mut s: State) -> State
     s
 }
 
-// A proved loop has to end, and nothing says that the input does. So the loop counts its turns down, from a number that no run uses up.
+// A proved loop must end, and the input need not. So the loop counts its turns down, from a number that no run exhausts.
 fn run(
     first: State,
     op: u32,

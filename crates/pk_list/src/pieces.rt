@@ -1,4 +1,4 @@
-// A piece of a list file: handed to the list call, with one line written for each of its places.
+// A piece of a list file: passed to the list call, with one line written for each of its places.
 ghost use Prim.Native.Nat.{_≤_};
 ghost use lib.ListN.{length};
 use crate::place::with_refusal;
@@ -18,20 +18,20 @@ use text_lines::write_bytes;
 // The most that one line can add to the output.
 const ROOM: usize = 256;
 
-// A piece: the number that it has, the lines before it, and its places, each a line of its own.
+// A piece: its number, the lines before it, and its places, each a line.
 pub struct Piece {
     pub number: u64,
     pub before: u64,
     pub places: usize,
 }
 
-// What becomes of the streams, and how many of the piece's lines were bad.
+// The streams afterwards, and how many of the piece's lines were bad.
 pub struct Answered {
     pub streams: Streams,
     pub bad: u64,
 }
 
-// Says a line on standard error.
+// Writes a line to standard error.
 fn tell(l: Line) {
     let mut text = [0u8; 256];
     let end = cmd_operations::line::write_line(&mut text, 0, l);
@@ -39,7 +39,7 @@ fn tell(l: Line) {
     io::write_all(STDERR_FILENO, text_lines::part(&text, 0, next));
 }
 
-// Says that a piece was refused.
+// Reports that a piece was refused.
 fn tell_refused(piece: Piece, refusal: u32) {
     let first = std::num::wrapping_add_u64(piece.before, 1);
     let last = std::num::wrapping_add_u64(piece.before, piece.places as u64);
@@ -110,7 +110,7 @@ fn list_first(op: u32, xs: &[u64], ys: &mut [u64], n: usize) -> Listed64
     list64(op, &xs[0..n], &mut ys[0..n])
 }
 
-// Answers the lines of a piece whose patterns and marks stand in xs and marks. Where the list call refuses the piece, none of its lines has a result.
+// Answers the lines of a piece, whose patterns are in xs and whose marks are in marks. Where the list call refuses the piece, no line has a result.
 pub fn answer_piece(
     s: Streams,
     out: &mut [u8; 65536],
@@ -139,7 +139,7 @@ pub fn answer_piece(
     }
 }
 
-// Says how far the run is.
+// Reports progress.
 pub fn tell_progress(answered: u64, bad: u64) {
     let line = with_count(empty(), Text::Pk as u8, answered, Text::Answered as u8);
     tell(with_text(with_number(line, bad), Text::OfThemBad as u8));

@@ -1,4 +1,4 @@
-// One place of a list file: a line read as a pattern, and what is written in the place of a line.
+// One place of a list file: a line read as a pattern, and the line written for it.
 ghost use mathlib.Core.Path.{_≡_};
 ghost use Prim.Native.Nat.{_<_};
 ghost use Rattle.text_numbers.specs.Digits.{digitsOf};
@@ -18,7 +18,7 @@ use text_lines::find;
 use text_lines::read_word;
 use text_lines::write_word;
 
-// A line as a place of a list: its pattern, with the mark 0. A line that is no pattern has the mark of what is wrong with it, and zero for its
+// A line as a place of a list: its pattern, with the mark 0. A line that is not a pattern has the mark of its fault, and zero for its
 // pattern, so that the lines after it keep their places.
 pub struct Place {
     pub pattern: u64,
@@ -34,10 +34,10 @@ const CARRIAGE_RETURN: u64 = 3;
 const BLANK: u64 = 4;
 
 const DIGIT: u64 = 5;
-// With the number of characters added, where that is wrong.
+// A wrong number of characters; that number is added.
 const LENGTH: u64 = 6;
 
-// The mark of a line that is no pattern: of all that is wrong with it, what helps most to mend it.
+// The mark of a line that is not a pattern: of its faults, the one that helps most to correct it.
 fn mark_of(s: &[u8], size: u64) -> u64
     ensures { λ r. ⌜ 0 < r ⌝ }
 {
@@ -62,7 +62,7 @@ fn mark_of(s: &[u8], size: u64) -> u64
     u64::MAX
 }
 
-// What a line of `size` characters says, by its whole or by a first part that is longer than any pattern.
+// Reads a line of `size` characters, given whole or by a first part longer than any pattern.
 pub fn read_place(s: &[u8], size: u64) -> Place
     ensures { λ r. ⌜ ReadAs (now (s .entry)) r ⌝ }
 {
@@ -78,7 +78,7 @@ pub fn read_place(s: &[u8], size: u64) -> Place
     }
 }
 
-// What the line is or has.
+// Describes the fault.
 fn with_flaw(l: Line, mark: u64) -> Line {
     if mark == EMPTY {
         return with_text(l, Text::Empty as u8);
@@ -102,13 +102,13 @@ fn with_mark(l: Line, mark: u64) -> Line {
     with_flaw(with_text(l, Text::TheLine as u8), mark)
 }
 
-// In the place of a line that is no pattern.
+// The line written for a line that is not a pattern.
 fn write_bad(out: &mut [u8], at: usize, number: u64, mark: u64) -> usize {
     let line = with_mark(with_start(empty(), number), mark);
     write_line(out, at, with_expected(line, b'W'))
 }
 
-// That a piece was refused: the number, and what it means.
+// The refusal of a piece: the number and its meaning.
 pub fn with_refusal(l: Line, refusal: u32) -> Line {
     let line = with_number(with_text(l, Text::Refused as u8), refusal as u64);
     match refusal {
@@ -119,13 +119,13 @@ pub fn with_refusal(l: Line, refusal: u32) -> Line {
     }
 }
 
-// In the place of a line whose piece was refused.
+// The line written for a line of a refused piece.
 fn write_refused(out: &mut [u8], at: usize, number: u64, refusal: u32) -> usize {
     let line = with_text(with_start(empty(), number), Text::ItsPiece as u8);
     write_line(out, at, with_refusal(line, refusal))
 }
 
-// In the place of the line `number`: the result y; or why there is none, by the line's own mark first.
+// The line written for the line `number`: the result y, or why there is none. The line's own mark comes before a refusal.
 pub fn write_place(out: &mut [u8], at: usize, number: u64, y: u64, mark: u64, refusal: u32) -> usize
     ensures { λ r. ⌜ (mark ≡ 0 → refusal ≡ 0 → Placed (now (out .entry)) at (digitsOf 16 16 y) (now (out .exit)) r) ⌝ }
 {

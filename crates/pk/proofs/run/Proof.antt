@@ -1,4 +1,4 @@
--- `pk::run` is safe and ends. The measure is the number of turns that are left. Assumes nothing.
+-- `pk::run` is safe and ends. The measure is the number of turns left. Assumes nothing.
 use borrow.Author.Needs.{needs}
 use Rattle.pk.proofs.run.Statement.{statement}
 use Rattle.pk.proofs.run.Tie as tie

@@ -1,4 +1,4 @@
--- `pk::take_lines` is safe and ends. The measure is what is left of the bytes. Assumes nothing.
+-- `pk::take_lines` is safe and ends. The measure is the rest of the bytes. Assumes nothing.
 use Prim.Native.Nat.{_-_}
 use lib.ListN.{length}
 use borrow.Author.Needs.{needs}

@@ -1,4 +1,4 @@
--- `pk_list::run` meets its contract. The measure is the number of turns that are left. Assumes nothing.
+-- `pk_list::run` meets its contract. The measure is the number of turns left. Assumes nothing.
 use Prim.Native.Nat.{_<_}
 use borrow.Author.Needs.{needs}
 use Rattle.pk_list.proofs.run.Statement.{statement}

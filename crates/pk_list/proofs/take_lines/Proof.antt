@@ -1,4 +1,4 @@
--- `pk_list::take_lines` meets its contract. The measure is what is left of the bytes. Assumes nothing.
+-- `pk_list::take_lines` meets its contract. The measure is the rest of the bytes. Assumes nothing.
 use Prim.Native.Nat.{_<_, _-_}
 use lib.ListN.{length}
 use borrow.Author.Needs.{needs}

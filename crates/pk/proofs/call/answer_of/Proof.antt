@@ -1,4 +1,4 @@
--- `pk::call::answer_of` meets its contract: under each number the calls give what the table's definition gives. Assumes nothing.
+-- `pk::call::answer_of` meets its contract: for each number the call gives what the table's definition gives. Assumes nothing.
 use mathlib.Core.Path.{ap, _∙_}
 use mir.Syntax.{w32}
 use mir.ValLaws.{toZ-ofZ}

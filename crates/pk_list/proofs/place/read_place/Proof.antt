@@ -1,4 +1,4 @@
--- `pk_list::place::read_place` meets its contract, by the cases of the word that is read. Assumes nothing.
+-- `pk_list::place::read_place` meets its contract, by the cases of the word read. Assumes nothing.
 use borrow.Author.Needs.{needs}
 use Rattle.pk_list.proofs.Reading.{value-reads, fault-reads}
 use Rattle.pk_list.proofs.place.read_place.Statement.{statement}

@@ -1,4 +1,4 @@
--- `pk_list::place::write_place` meets its contract: a line with no mark, of a piece that was not refused, comes to the last return. Assumes nothing.
+-- `pk_list::place::write_place` meets its contract: a line without a mark, of a piece that was not refused, reaches the last return. Assumes nothing.
 use native.Mathlib.Omega.{arith}
 use borrow.Author.Needs.{needs}
 use Rattle.pk_list.proofs.place.write_place.Statement.{statement}
