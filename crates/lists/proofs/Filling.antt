@@ -1,4 +1,4 @@
--- What a loop that has done some places has made of the output, over what is done at each. Assumes nothing.
+-- The output of a loop that has done some places, over the operation at each. Assumes nothing.
 use Prim.Native.Nat.{ℕ, zero, suc, _+_, _<_}
 use mathlib.Core.Path.{_≡_, refl, ap}
 use mathlib.Core.List.{List, [], _∷_, _++_, map}
@@ -7,7 +7,7 @@ use native.Mathlib.Omega.{arith}
 use lib.ListN.{length, take, drop, set, getD}
 
 module _ (g : ℕ → ℕ) where
-  -- the first k places of ys are settled from xs
+  -- ys with its first k places filled from xs
   abbrev pub filled : List ℕ → List ℕ → ℕ → List ℕ
   filled xs ys k = map g (take k xs) ++ drop k ys
 

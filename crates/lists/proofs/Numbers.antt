@@ -1,4 +1,4 @@
--- The number, the value and the output of the list call, by what the code tests, over the format, the limit and the operation. Assumes nothing.
+-- The refusal, the value and the output of the list call, by the tests of the code, over the format, the limit and the operation. Assumes nothing.
 use Prim.Native.Nat.{ℕ, zero, suc, _≤_, _<_}
 use mathlib.Core.Path.{_≡_, refl, sym, _∙_}
 use mathlib.Core.Logic.{inl, inr}
@@ -14,7 +14,7 @@ use Rattle.ieee.proofs.ListCalls.{in-range, range-of, given-refusals, list-is}
 abbrev number : ℕ → ℕ → List ℕ → List ℕ → ℕ
 number n op xs ys = given (listRefusals n op xs ys)
 
--- ---- the parts of an answer, by the number that is given
+-- ---- the parts of an answer, by its refusal
 module _ (f : Format) (n op : ℕ) (xs ys : List ℕ) where
   number-by : (k : ℕ) → numberOf (listBy f op xs ys k .answer) ≡ k
   unfolding listBy
@@ -34,7 +34,7 @@ module _ (f : Format) (n op : ℕ) (xs ys : List ℕ) where
   unfolding listIn
   output-is = output-by (number n op xs ys)
 
--- ---- the number, for any lists of these lengths
+-- ---- the refusal, for any lists of these lengths
 module _ (n op read written : ℕ) where
   abbrev Given : ℕ → Type 0
   Given k = (xs ys : List ℕ) → length xs ≡ read → length ys ≡ written → k ≡ number n op xs ys
@@ -52,9 +52,9 @@ module _ (n op read written : ℕ) where
     pub accepted : read ≤ n → written ≤ n → read ≡ written → Given 0
     accepted r w h xs ys p q = sym (given-refusals n op xs ys .none .1 (in-range op least most, (omega arith, omega arith)))
 
--- ---- the whole answer, with the limit that is promised
+-- ---- the whole answer, with the promised limit
 module _ (f : Format) (op : ℕ) (xs ys : List ℕ) where
-  -- an answer in its parts: the number, the value and the output
+  -- an answer in its parts: the refusal, the value and the output
   abbrev Parts : ℕ → ℕ → List ℕ → Type 0
   Parts k v zs = (k ≡ numberOf (listOf f op xs ys .answer)) × (v ≡ valueOf (listOf f op xs ys .answer)) × (zs ≡ listOf f op xs ys .output)
 

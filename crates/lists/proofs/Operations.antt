@@ -20,7 +20,7 @@ module _ (f : Format) (op x : ℕ) where
   pub three-is-trunc : op ≡ 3 → truncOf f x ≡ operation f op x
   three-is-trunc e = sym (operation-trunc f x) ∙ by-number e
 
--- an unknown one leaves a pattern as it is
+-- an unknown one leaves a pattern unchanged
 pub others-leave : (f : Format) (op x : ℕ) → (op ≡ 1 → ⊥) → (op ≡ 2 → ⊥) → (op ≡ 3 → ⊥) → x ≡ operation f op x
 unfolding operation
 others-leave f zero x a b c = refl

@@ -1,4 +1,4 @@
-// The list call: refused by a number with the output unchanged, or done at every place.
+// The list call: refused, with the output unchanged, or done at every place.
 ghost use mathlib.Core.Path.{_≡_};
 ghost use Rattle.ieee.specs.Format.{b64};
 ghost use Rattle.ieee.specs.Lists.{listOf};

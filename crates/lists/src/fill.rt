@@ -1,4 +1,4 @@
-// What the list call does at its places.
+// The list call at its places.
 ghost use mathlib.Core.Path.{_≡_};
 ghost use mathlib.Core.List.{map};
 ghost use lib.ListN.{length};
@@ -20,7 +20,7 @@ fn apply64(op: u32, x: u64) -> u64
     }
 }
 
-// Each place of ys from the same place of xs. The operation stays the same, so that the compiler chooses it once for the whole loop.
+// Fills each place of ys from the same place of xs. The operation is fixed, so that the compiler chooses it once for the whole loop.
 pub fn fill64(op: u32, xs: &[u64], ys: &mut [u64])
     requires { ⌜ length (now xs) ≡ length (now ys) ⌝ }
     ensures { λ _. ⌜ now (ys .exit) ≡ map (operation b64 op) (now (xs .entry)) ⌝ }

@@ -1,4 +1,4 @@
-// The face: the operations, re-exported, and the same as plain C functions on whole numbers.
+// The face: the operations, re-exported, and the same as C functions on whole numbers.
 ghost use mathlib.Core.Path.{_≡_};
 ghost use Rattle.ieee.specs.Format.{b64, b32};
 ghost use Rattle.ieee.specs.Fma.{fmaOf};

@@ -1,4 +1,4 @@
--- `lists::call::list64` meets its contract: the number decides what becomes of the output (Numbers). Assumes nothing.
+-- `lists::call::list64` meets its contract: the refusal decides the output (Numbers). Assumes nothing.
 use mathlib.Core.Path.{refl}
 use native.Mathlib.Omega.{arith}
 use borrow.Author.Needs.{needs}

@@ -1,5 +1,5 @@
--- `lists::fill::fill64` meets its contract. The invariant: the first i places are settled, and nothing else is changed (Filling).
--- The measure is what is left of xs. Assumes nothing.
+-- `lists::fill::fill64` meets its contract. The invariant: the first i places are filled, and nothing else is changed (Filling).
+-- The measure is the rest of xs. Assumes nothing.
 use mathlib.Core.Path.{_≡_, refl, ap, _∙_}
 use Prim.Native.Nat.{_-_, _≤_}
 use native.Mathlib.Omega.{arith}

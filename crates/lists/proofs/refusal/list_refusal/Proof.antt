@@ -1,4 +1,4 @@
--- `lists::refusal::list_refusal` meets its contract: each test is a reason (Numbers). Assumes nothing.
+-- `lists::refusal::list_refusal` meets its contract: each test is a refusal (Numbers). Assumes nothing.
 use mathlib.Core.Logic.{⊎-elim}
 use native.Mathlib.Omega.{arith}
 use borrow.Author.Tests.{ltb-true, ltb-false}
