@@ -26,7 +26,7 @@ abbrev pub absolute : Value → Exact
 absolute (dyadic z k) = ratio (natAbs z) (2 ^ k)
 absolute (surd n) = root n
 
--- all that rounding asks of an exact magnitude: how twice of it compares with a whole number s; the root compares squares
+-- all that rounding needs of an exact magnitude: how twice it compares with a whole number s; a root compares squares
 abbrev pub Over : Exact → ℕ → Type 0
 Over (ratio n d) s = s * d ≤ 2 * n
 Over (root n) s = s * s ≤ 4 * n

@@ -31,7 +31,7 @@ wordOf r = cond (r .invalid) 1 0 + cond (r .division-by-zero) 4 0 + cond (r .ove
 abbrev pub signals : Format → ℕ → Bool
 signals f x = ltb (inf f) (magnitude f x) && ltb (fraction f x) (2 ^ (f .frac - 1))
 
--- what an operation that takes a NaN and gives one raises (clause 6.2)
+-- the flags of an operation that takes a NaN and gives one (clause 6.2)
 abbrev pub nanFlags : Bool → Flags
 nanFlags b = cond b onlyInvalid none
 
@@ -55,7 +55,7 @@ largest f = inf f - 1
 abbrev pub leastNormal : Format → ℕ
 leastNormal f = 2 ^ f .frac
 
--- clause 7.4: the largest finite number is exceeded by what the rounded result would be; one exponent bit more shows it as any number of them does
+-- clause 7.4: the largest finite number is exceeded by what the rounded result would be; one more exponent bit suffices to tell
 unfoldable pub overflows : Format → ℕ → Way → Exact → Bool
 unfolding widely
 overflows f k w x = ltb (units f (largest f) * 2 ^ finer f k) (widely f k w x)

@@ -1,4 +1,4 @@
--- What the flags of an exact value rounded once are held to, in the words of IEEE 754-2019, clauses 7.4 to 7.6. Assumes nothing.
+-- The rule for the flags of an exact value rounded once, in the words of IEEE 754-2019, clauses 7.4 to 7.6. Assumes nothing.
 use Prim.Native.Nat.{ℕ, _*_, _^_, _≤_, _<_}
 use mathlib.Core.Path.{_≡_}
 use mathlib.Core.Logic.{_↔_}
@@ -81,7 +81,7 @@ abbrev pub Small : Format → Way → Exact → Type 0
 Small f w x = (Under x 0 → ⊥) × (units f (rounded f w (magnified x 2)) < 2 * units f (leastNormal f))
 
 pub record Unbounded (f : Format) (w : Way) (x : Exact) : Type 0 where
-  -- every number of exponent bits more gives the verdict of one, and for all but zero some number is enough
+  -- any number of additional exponent bits gives the verdict of one; for every value but zero some number is enough
   pub overflow-alike : (k : ℕ) → 1 ≤ k → overflows f k w x ≡ overflows f 1 w x
   pub tiny-alike : (k : ℕ) → 1 ≤ k → tiny f k w x ≡ tiny f 1 w x
   pub enough : (Under x 0 → ⊥) → (k : ℕ) × Inside f k x

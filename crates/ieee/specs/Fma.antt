@@ -10,7 +10,7 @@ use Rattle.ieee.specs.Exact.{Value, dyadic}
 use Rattle.ieee.specs.Round.{Attribute, ties-to-even, ties-to-away, toward-zero, toward-positive, toward-negative, answer}
 use Rattle.ieee.specs.Flags.{Flags, none, onlyInvalid, signals, raised}
 
--- infinity times so many units: zero meets infinity, or infinity
+-- infinity times a number of units: NaN for zero, otherwise infinity
 abbrev pub infinityTimes : ℕ → Kind
 infinityTimes zero = nan
 infinityTimes (suc u) = infinite
@@ -101,7 +101,7 @@ fmaFlags f x y z = fmaFlagsIn f ties-to-even x y z
 abbrev pub exactFma : Format → ℕ → ℕ → ℕ → Value
 exactFma f x y z = dyadic (value f x *ℤ value f y +ℤ value f z *ℤ pos (2 ^ low f)) (low f)
 
--- the sign of a zero: where the product and z have unlike signs the attribute's, and else theirs
+-- the sign of a zero: the attribute's where the product and z have unlike signs, otherwise theirs
 abbrev pub zeroSign : Format → Attribute → ℕ → ℕ → ℕ → Bool
 zeroSign f a x y z = cond (unlike (unlike (minus f x) (minus f y)) (minus f z)) (zeroSum a) (unlike (minus f x) (minus f y))
 

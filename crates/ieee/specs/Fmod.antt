@@ -5,7 +5,7 @@ use Rattle.ieee.specs.Pattern.{Kind, nan, infinite, finite, kind, minus,
 use Rattle.ieee.specs.Round.{shorter, rounded, exactly}
 use Rattle.ieee.specs.Whole.{whole}
 
--- the rows of every remainder, by the kinds of x and y: none where there is no remainder, same where y is infinite, and else r of |x| and |y|
+-- the rows of every remainder, by the kinds of x and y: none where there is no remainder, same where y is infinite, otherwise r of |x| and |y|
 unfoldable pub divide : {A : Type 0} → A → A → (ℕ → ℕ → A) → Kind → Kind → A
 divide none same r nan l = none
 divide none same r infinite l = none

@@ -1,7 +1,7 @@
 -- A binary interchange format of IEEE 754-2019, clause 3.4, and its numbers. Assumes nothing.
 use Prim.Native.Nat.{ℕ, zero, suc, _+_, _-_, _*_, _/_, _%_, _^_, _≤_, _<_}
 
--- so many fraction bits and exponent bits; the sign is one bit more
+-- the numbers of fraction bits and of exponent bits; the sign is one more bit
 pub record Format : Type 0 where
   pub frac : ℕ
   pub expo : ℕ
@@ -15,7 +15,7 @@ b32 = record { frac = 23; expo = 8 }
 abbrev pub b64 : Format
 b64 = record { frac = 52; expo = 11 }
 
--- the sign bit: a pattern is below twice this, and what is left of a pattern without its sign, its magnitude, is below this
+-- the sign bit: a pattern is below twice this, and a magnitude, a pattern without its sign, is below this
 abbrev pub top : Format → ℕ
 top f = 2 ^ (f .frac + f .expo)
 
@@ -30,7 +30,7 @@ low f = bias f + f .frac - 1
 abbrev pub inf : Format → ℕ
 inf f = (2 ^ f .expo - 1) * 2 ^ f .frac
 
--- the one NaN that answers give: no sign, and of the fraction the first bit alone
+-- the NaN that every operation gives: no sign, and only the first bit of the fraction set
 abbrev pub canonical : Format → ℕ
 canonical f = inf f + 2 ^ (f .frac - 1)
 
@@ -43,7 +43,7 @@ fields h (suc e) t = (h + t) * 2 ^ e
 unfoldable pub units : Format → ℕ → ℕ
 units f m = fields (2 ^ f .frac) (m / 2 ^ f .frac) (m % 2 ^ f .frac)
 
--- what theorems ask of a format
+-- what the theorems require of a format
 pub record Fair (f : Format) : Type 0 where
   -- infinity's pattern is even
   pub frac-pos : 1 ≤ f .frac

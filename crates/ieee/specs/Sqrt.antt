@@ -9,7 +9,7 @@ use Rattle.ieee.specs.Round.{Attribute, ties-to-even, answer}
 use Rattle.ieee.specs.Flags.{Flags, none, onlyInvalid, nanFlags, signals, raised}
 use Rattle.ieee.specs.Status.{OK, INVALID}
 
--- the exact root of u units: r units are it where r r = u 2 ^ low, since a unit is 2 ^ -low
+-- the exact root of u units: r units where r r = u 2 ^ low, since a unit is 2 ^ -low
 abbrev pub rootOf : Format → ℕ → Value
 rootOf f u = surd (u * 2 ^ low f)
 

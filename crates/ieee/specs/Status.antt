@@ -1,4 +1,4 @@
--- Statuses, as numbers: the bits of the crate's flags, where 4 is division by zero, 8 overflow and 16 underflow. Assumes nothing.
+-- Statuses, as numbers: the bits of libm's flags, where 4 is division by zero, 8 overflow and 16 underflow. Assumes nothing.
 use Prim.Native.Nat.{ℕ}
 
 abbrev pub OK : ℕ
