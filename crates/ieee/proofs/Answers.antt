@@ -89,7 +89,7 @@ module _ (f : Format) (g : Fair f) (t : Ties) (s : Bool) (v : Value) where
           overflow = rw magnitude-r (n .overflow);
         }
 
-  -- ---- and back: what meets the rule for answers has the value's sign and a magnitude that meets the rule for magnitudes
+  -- ---- the converse: a pattern that meets the rule for answers has the value's sign and a magnitude that meets the rule for magnitudes
   module _ (r : ℕ) (o : Once f t s v r) where
     value-own : value f r ≡ withSign (signOf s v) (units f (magnitude f r))
     value-own = value-with f r (signOf s v) (o .sign)
@@ -143,7 +143,7 @@ module _ (f : Format) (g : Fair f) (t : Ties) (s : Bool) (v : Value) where
   answer-once =
       rw answer-is (nearest-once (rounded f (tiesWay t) (absolute v)) (rounded-nearest f g t (absolute v) (sound v)))
 
-  -- and exactly one pattern does
+  -- exactly one pattern does
   pub once-answer : (r : ℕ) → Once f t s v r → answer f (tiesAttribute t) s v ≡ r
   once-answer r o = once-only r o
 

@@ -31,7 +31,7 @@ toward-other false = refl
 toward-other true = refl
 
 module _ (f : Format) (s : Bool) (v : Value) where
-  -- what the rule of a direction asks of a pattern with the value's sign is what the rule for magnitudes asks
+  -- what the rule of a direction requires of a pattern with the value's sign is what the rule for magnitudes requires
   module _ (r : ℕ) (p : Pattern f r) (e : minus f r ≡ signOf s v) where
     abbrev AsMagnitude : Bool → Type 0
     AsMagnitude d = Rule f (wayOf (toward d) (signOf s v)) (absolute v) (magnitude f r) ↔ Directed f d s v r
@@ -79,7 +79,7 @@ module _ (f : Format) (g : Fair f) where
   answer-met toward-positive s v = toward-met false s v
   answer-met toward-negative s v = toward-met true s v
 
-  -- and exactly one pattern does
+  -- exactly one pattern does
   pub answer-met-only : (a : Attribute) (s : Bool) (v : Value) (r : ℕ) → RuleIn f a s v r → answer f a s v ≡ r
   answer-met-only ties-to-even s v r m = once-answer f g to-even s v r m
   answer-met-only ties-to-away s v r m = once-answer f g to-away s v r m

@@ -1,4 +1,4 @@
--- The band of an exact value: rounded down and rounded up, it lies between, and the two ends are one number exactly when inexact is not raised. Assumes nothing.
+-- The band of an exact value: it lies between its roundings down and up, which are one number exactly when inexact is not raised. Assumes nothing.
 use Prim.Native.Nat.{_*_, _^_}
 use mathlib.Core.Path.{_≡_, sym, ap, _∙_, subst}
 use mathlib.Core.Bool.{Bool}
@@ -26,7 +26,7 @@ between (dyadic z k) u a b = eqZ z (u *ℤ pos (2 ^ k)) (omega (arith, leZ-fact 
 between (surd n) (pos u) a b = both-ways n (u * u) b a
 between (surd n) (negsuc u) a b = absurd b
 
--- and it is one number only
+-- and equals no other
 equals-one : (v : Value) (a b : ℤ) → Equals v a → Equals v b → a ≡ b
 equals-one (dyadic z k) a b p q =
     let e = eqZ-fact (sym p ∙ q) in

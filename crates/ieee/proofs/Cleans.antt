@@ -1,4 +1,4 @@
--- What implies what among the flags of every operation, and that invalid stands alone. Assumes nothing.
+-- Implications among the flags of every operation; invalid is raised alone. Assumes nothing.
 use mathlib.Core.Path.{_≡_, refl, sym, ap, _∙_}
 use mathlib.Core.Bool.{Bool, true, false, cond, true≢false}
 use Rattle.ieee.specs.Format.{Format, Fair}
@@ -22,12 +22,12 @@ pub either-clean : (b : Bool) (F : Flags) → Clean F → Clean (cond b onlyInva
 either-clean true F c = invalid-clean
 either-clean false F c = c
 
--- what is not raised beside an exact answer is raised beside inexact
+-- a flag that no exact answer raises implies inexact
 beside-inexact : (b i : Bool) → (i ≡ false → b ≡ false) → b ≡ true → i ≡ true
 beside-inexact b true h e = refl
 beside-inexact b false h e = absurd (true≢false (sym e ∙ h refl))
 
--- what is rounded once
+-- a value rounded once
 pub raised-clean : (f : Format) → Fair f → (a : Attribute) (s : Bool) (v : Value) → Clean (raised f a s v)
 raised-clean f g a s v =
     let h = raised-rule f g a s v in

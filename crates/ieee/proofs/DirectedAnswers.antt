@@ -1,4 +1,4 @@
--- Answers toward positive and toward negative, over the direction: what is asked of the answer is what the rule for magnitudes asks. Assumes nothing.
+-- Answers toward positive and toward negative, over the direction: the rule for answers is the rule for magnitudes. Assumes nothing.
 use Prim.Native.Nat.{ℕ, zero, suc, _*_, _^_, _≤_, _<_}
 use mathlib.Core.Path.{_≡_, refl, sym, ap, _∙_, subst, subst₂}
 use mathlib.Core.Logic.{_↔_}
@@ -18,7 +18,7 @@ use Rattle.ieee.proofs.Patterns.{inf-below-top, magnitude-signed, patte
 use Rattle.ieee.proofs.Signs.{by-sign, signed-zero, signed-abs, signed-times}
 
 -- ---- the order of whole numbers, up or down
--- numbers of one sign: away from zero their order is that of magnitudes, toward zero it is the other way round
+-- numbers of one sign: away from zero their order is that of the magnitudes, toward zero the reverse
 before-like : (t : Bool) (a b : ℕ) → Before t (withSign t a) (withSign t b) ↔ (a ≤ b)
 before-like false a b = (λ h. omega (arith, leZ-fact (pos a) (pos b) (h .le)), λ h. record { le = leZ-of (pos a) (pos b) (omega arith) })
 before-like true a b = (
@@ -30,7 +30,7 @@ after-like : (t : Bool) (a b : ℕ) → Before (not t) (withSign t a) (withSign 
 after-like false a b = before-like false b a
 after-like true a b = before-like true b a
 
--- numbers of two signs: away from zero, one of the other sign comes later only as zero; toward zero it always does
+-- numbers of unlike signs: away from zero, one of the other sign comes later only as zero; toward zero it always does
 before-unlike : (t : Bool) (a b : ℕ) → Before t (withSign t a) (withSign (not t) b) → b ≤ 0
 before-unlike false a b h = omega (arith, leZ-fact (pos a) (negℤ (pos b)) (h .le), negZ (pos b))
 before-unlike true a b h = omega (arith, leZ-fact (pos b) (negℤ (pos a)) (h .le), negZ (pos a))
@@ -63,7 +63,7 @@ bound-away true (surd zero) zero = (λ h. omega arith, λ h. omega arith)
 bound-away true (surd zero) (suc u) = (λ h. omega arith, λ h. tt)
 bound-away s (surd (suc n)) u = (λ h. omega arith, λ h. omega arith)
 
--- and toward zero where it is at most the value's
+-- and toward zero where its magnitude is at most the value's
 bound-toward : (s : Bool) (v : Value) (u : ℕ) → Bound (not (signOf s v)) v (withSign (signOf s v) u) ↔ Over (absolute v) (2 * u)
 bound-toward s (dyadic z k) u =
     let t = signOf s (dyadic z k) in
@@ -116,7 +116,7 @@ module _ (f : Format) (s : Bool) (v : Value) where
     value-r : value f r ≡ withSign t u
     value-r = value-with f r t e
 
-    -- away from zero: the least magnitude that is at least the value's is first of those that bound the value
+    -- away from zero: the least magnitude that is at least the value's is the first that bounds the value
     away-first : Outward f (absolute v) (magnitude f r) → (q : ℕ) → magnitude f q < inf f → Bound t v (value f q) → (magnitude f r < inf f) × Before t (value f r) (value f q)
     away-first o q h b =
         let w = value-away q b in
@@ -134,7 +134,7 @@ module _ (f : Format) (s : Bool) (v : Value) where
           infinity = λ _. e;
         }
 
-    -- toward zero: so is the greatest magnitude that is at most the value's; a number of the other sign comes after it
+    -- toward zero: so is the greatest magnitude that is at most the value's; numbers of the other sign come after it
     toward-first : Toward f (absolute v) (magnitude f r) → (q : ℕ) → magnitude f q < inf f → Bound (not t) v (value f q) → Before (not t) (value f r) (value f q)
     toward-first o q h b =
         let n = units f (magnitude f q) in
@@ -156,7 +156,7 @@ module _ (f : Format) (s : Bool) (v : Value) where
           infinity = λ i. absurd (omega (arith, o .finite));
         }
 
-    -- and back, by numbers of the value's sign
+    -- the converse, by numbers of the value's sign
     module _ (d : Bool) (c : Directed f d s v r) where
       bounds-at : magnitude f r < inf f → Bound d v (withSign t u)
       bounds-at l = subst (Bound d v) value-r (c .bounds l)

@@ -1,4 +1,4 @@
--- Values that need no rounding: a zero, and what the format holds. Assumes nothing.
+-- Values that need no rounding: zero, and the values that the format holds. Assumes nothing.
 use Prim.Native.Nat.{ℕ, zero, suc, _*_, _^_, _<_}
 use mathlib.Core.Path.{_≡_, refl, ap, _∙_}
 use mathlib.Core.Bool.{Bool, true, false}
@@ -15,7 +15,7 @@ use Rattle.ieee.proofs.Past.{Passes, rounded-is}
 use Rattle.ieee.proofs.Fixed.{below-reach, fixed}
 use Rattle.ieee.proofs.Signs.{abs-signed}
 
--- nothing is not past any place
+-- zero is past no threshold
 not-passes : (f : Format) (w : Way) (x : Exact) → Sound x → Under x 0 → Passes f w x 0 → ⊥
 not-passes f even x s u p = apart x s (omega (arith, units-rise f 0)) u (p .0)
 not-passes f away x s u p = apart x s (omega (arith, units-rise f 0)) u p
@@ -50,7 +50,7 @@ pub answer-of : (f : Format) (a : Attribute) (s t : Bool) (n k : ℕ) → signOf
 unfolding answer
 answer-of f a s t n k e = λ i. signed f (e i) (rounded f (wayOf a (e i)) (ratio (abs-signed t n i) (2 ^ k)))
 
--- what the format holds is answered by itself
+-- a value that the format holds is its own answer
 pub answer-held : (f : Format) (a : Attribute) (s t : Bool) (m k : ℕ) → m < inf f → signOf s (dyadic (withSign t (units f m * 2 ^ k)) k) ≡ t
     → answer f a s (dyadic (withSign t (units f m * 2 ^ k)) k) ≡ signed f t m
 answer-held f a s t m k l e =

@@ -1,4 +1,4 @@
--- A value that the format holds comes back, whatever the way. Assumes nothing.
+-- A value that the format holds is its own rounding, whatever the way. Assumes nothing.
 use Prim.Native.Nat.{ℕ, zero, suc, _*_, _≤_, _<_}
 use mathlib.Core.Path.{_≡_, ap, _∙_}
 use native.Mathlib.Omega.{arith}
@@ -17,7 +17,7 @@ Reach f away m = m ≤ inf f
 Reach f shorter m = m < inf f
 Reach f longer m = m ≤ inf f
 
--- a number is below the place midway to the next, and the next above it
+-- a number is below the middle to the next, and the next above it
 below-middle : (f : Format) (j d : ℕ) → 0 < d → Over (ratio (units f j * d) d) (middle f j) → ⊥
 below-middle f j d p h = omega (arith, units-rise f j, cross (units-rise f j) p)
 

@@ -1,4 +1,4 @@
--- Two exact values on the same side of all places that decide raise the same flags: the numbers, the middles between them, and one place three quarters of the way. Assumes nothing.
+-- Two exact values on the same side of every threshold raise the same flags. The thresholds are the numbers, the middles between them, and one at three quarters of a gap. Assumes nothing.
 use Prim.Native.Nat.{ℕ, suc, _-_, _*_, _^_, _≤_, _<_}
 use mathlib.Core.Path.{_≡_, subst}
 use mathlib.Core.Logic.{_↔_}
@@ -30,14 +30,14 @@ both e h = (λ p. (e .0 (p .0), h .0 (p .1)), λ p. (e .1 (p .0), h .1 (p .1)))
 neither : {A B : Type 0} → A ↔ B → (A → ⊥) ↔ (B → ⊥)
 neither e = (λ n b. n (e .1 b), λ n a. n (e .0 a))
 
--- reaching a number is a matter of three places
+-- whether a number is reached depends on three thresholds
 reaches-alike : (f : Format) (w : Way) (x y : Exact) (j : ℕ) → Beside x y (2 * units f j) → Beside x y (middle f j) → Beside x y (2 * units f (suc j)) → Reaches f w x j ↔ Reaches f w y j
 reaches-alike f even x y j a b c = (λ r. (b .above .0 (r .0), λ u. r .1 (b .below .1 u)), λ r. (b .above .1 (r .0), λ u. r .1 (b .below .0 u)))
 reaches-alike f away x y j a b c = b .above
 reaches-alike f shorter x y j a b c = c .above
 reaches-alike f longer x y j a b c = neither (a .below)
 
--- twice the values, at twice the place
+-- twice the values, at twice the threshold
 twice : (x y : Exact) (s : ℕ) → Beside x y s → Beside (magnified x 2) (magnified y 2) (s * 2)
 twice x y s b =
     let (ox, ux) = magnified-beside x s 2 (omega arith) in
@@ -62,7 +62,7 @@ module _ (f : Format) (g : Fair f) (w : Way) (x y : Exact) (s : Sound x) (t : So
       let e = suc-largest f g in
       reaches-alike f w x y (largest f) (l .at-number (largest f) (omega arith)) (l .at-middle (largest f) (omega arith)) (l .at-number (suc (largest f)) (omega arith))
 
-  -- the three places about twice the least normal number
+  -- the three thresholds about twice the least normal number
   least-alike : Reaches f w (magnified x 2) (beforeTwice f g) ↔ Reaches f w (magnified y 2) (beforeTwice f g)
   least-alike =
       let p = pow-pos (f .frac) in

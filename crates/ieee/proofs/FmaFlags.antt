@@ -35,7 +35,7 @@ module _ (f : Format) where
       flags-by a x y z (silent x y z (finite-silent f x u p) (finite-silent f y v q) (finite-silent f z w r)) p q r
       ∙ ap (raised f a (zeroSign f a x y z)) (sum-exact f x y z u v w p q r)
 
-  -- so they go with the answer
+  -- so they are the flags of the answer
   pub fma-flags-rule : Fair f → (a : Attribute) (x y z u v w : ℕ) → kind f x ≡ finite u → kind f y ≡ finite v → kind f z ≡ finite w
       → FlagsRule f a (zeroSign f a x y z) (exactFma f x y z) (fmaIn f a x y z) (fmaFlagsIn f a x y z)
   fma-flags-rule g a x y z u v w p q r =
@@ -65,7 +65,7 @@ module _ (f : Format) (a : Attribute) (x y z : ℕ) where
   unfolding fmaFlagsIn
   signals-so h = ap (λ b. cond (b || clashes (kind f x) (kind f y)) onlyInvalid (plusFlagsBy f a s (times (kind f x) (kind f y)) (minus f z) (kind f z))) h
 
-  -- a NaN meets no clash, nor does any product but that of zero and infinity
+  -- a NaN has no clash, nor does any product but that of zero and infinity
   nan-second : (k : Kind) → (clashes k nan ≡ false) × (times k nan ≡ nan)
   nan-second nan = (refl, refl)
   nan-second infinite = (refl, refl)

@@ -1,4 +1,4 @@
--- The formats are fair, and the numbers are what they should be. Assumes nothing.
+-- The two formats are fair, and their numbers are those of the standard. Assumes nothing.
 use mathlib.Core.Path.{refl}
 use lib.Dec.{lit≤, lit<}
 use Rattle.ieee.specs.Format.{Fair, b16, b32, b64, units}

@@ -1,4 +1,4 @@
--- A number of at most frac + 1 digits and then zeros is held by the format, so rounding gives it back. Assumes nothing.
+-- A number of at most frac + 1 digits followed by zeros is held by the format, so it is its own rounding. Assumes nothing.
 use Prim.Native.Nat.{ℕ, zero, suc, _+_, _-_, _*_, _^_, _<_}
 use mathlib.Core.Path.{_≡_, sym, ap, _∙_}
 use native.Mathlib.Nat.{two-pow-succ}

@@ -1,4 +1,4 @@
--- Where neither overflow nor tininess is judged, the answer is what every wider format gives: the bounds of the exponent did nothing. Assumes nothing.
+-- Where neither overflow nor tininess is judged, the answer is that of every wider format: the bounds of the exponent have no effect. Assumes nothing.
 use Prim.Native.Nat.{ℕ, zero, suc, _+_, _-_, _*_, _%_, _^_, _≤_, _<_}
 use mathlib.Core.Path.{_≡_, sym, ap, _∙_, subst}
 use mathlib.Core.Logic.{_↔_}
@@ -63,7 +63,7 @@ module _ (f : Format) (g : Fair f) (k : ℕ) (l : 1 ≤ k) (w : Way) (x : Exact)
     reaches-as shorter = over-as (2 * units f (suc i)) (2 * units e (suc (i + d * h))) (omega (arith, next))
     reaches-as longer = let o = under-as (2 * units f i) (2 * units e (i + d * h)) (omega (arith, at)) in (λ p v. p (o .1 v), λ p v. p (o .0 v))
 
-  -- ---- what is not tiny is answered by a normal number
+  -- ---- a value that is not tiny has a normal answer
   half-way : Over (magnified x 2) (middle f (beforeTwice f g)) → Over x (middle f (h - 1))
   half-way o =
       magnified-beside x (middle f (h - 1)) 2 (omega arith) .0 .0
@@ -90,7 +90,7 @@ module _ (f : Format) (g : Fair f) (k : ℕ) (l : 1 ≤ k) (w : Way) (x : Exact)
     below-inf : m < inf f
     below-inf = by-contra (suc m) (inf f) (λ q. no (infinity-overflows f g w x s (both-ways m (inf f) (rounded-le f w x) (omega arith))))
 
-    -- what is not reached in f
+    -- the number that is not reached in f
     not-next : Reaches f w x m → ⊥
     not-next p =
         order (suc (suc m)) (inf f)

@@ -1,4 +1,4 @@
--- The flags by the lower neighbour and six places above it, for the rounding step. Assumes nothing.
+-- The flags by the lower neighbour and six locations, for the rounding step. Assumes nothing.
 use Prim.Native.Nat.{ℕ, suc, _+_, _-_, _*_, _%_, _^_, _<_}
 use mathlib.Core.Path.{_≡_, sym, ap, _∙_, subst}
 use mathlib.Core.Bool.{Bool, false, not, _&&_, _||_, cond}
@@ -20,11 +20,11 @@ use Rattle.ieee.proofs.Verdicts.{reads-as, three, suc-largest, beforeTw
 use Rattle.ieee.proofs.Raised.{Same, same-rounded, differs-reads}
 use Rattle.ieee.proofs.FarFlags.{over-reaches}
 
--- four times the place three quarters of the way from m to the next
+-- four times the point three quarters of the way from m to the next
 abbrev pub quarters : Format → ℕ → ℕ
 quarters f m = units f m + 3 * units f (suc m)
 
--- where x lies from m up: 0 at m, 1 before the middle, 2 at it, 3 past it, 4 at three quarters or past them, 5 at the next or past it
+-- where x lies from m up: 0 at m, 1 before the middle, 2 at the middle, 3 past it, 4 at three quarters or past them, 5 at the next or past it
 abbrev pub locationFrom : Format → ℕ → Exact → ℕ
 locationFrom f m x =
     cond (under x (2 * units f m)) 0
@@ -33,7 +33,7 @@ locationFrom f m x =
     (cond (over x (2 * units f (suc m))) 5
     (cond (over (magnified x 2) (quarters f m)) 4 3))) 1)
 
--- what the five thresholds say
+-- the location in terms of the five thresholds
 pub record Location (f : Format) (m : ℕ) (x : Exact) (p : ℕ) : Type 0 where
   pub one : Reads (Under x (2 * units f m) → ⊥) (leb 1 p)
   pub two : Reads (Over x (middle f m)) (leb 2 p)
@@ -97,15 +97,15 @@ module _ (f : Format) (m : ℕ) (x : Exact) (s : Sound x) where
       location-by (under-reads x (2 * units f m)) (over-reads x (middle f m)) (under-reads x (middle f m)) (over-reads x (2 * units f (suc m)))
       (over-reads (magnified x 2) (quarters f m))
 
--- ---- the flags of a magnitude by the way, the lower neighbour m and the place p
--- the place from which on the largest finite number is exceeded
+-- ---- the flags of a magnitude by the way, the lower neighbour m and the location p
+-- the location from which on the largest finite number is exceeded
 abbrev pub overFrom : Way → ℕ
 overFrom even = 2
 overFrom away = 2
 overFrom shorter = 5
 overFrom longer = 1
 
--- the place from which on the largest subnormal number is left
+-- the location from which on the rounding is normal
 abbrev pub normalFrom : Way → ℕ
 normalFrom even = 4
 normalFrom away = 4
@@ -122,7 +122,7 @@ abbrev pub flagsAt : Format → Way → ℕ → ℕ → Flags
 flagsAt f w m p = judged (overAt f w m p) (tinyAt f w m p) (leb 1 p)
 
 module _ (f : Format) (g : Fair f) (w : Way) (x : Exact) (s : Sound x) (m p : ℕ) (b : From f x m) (t : Location f m x p) where
-  -- what is not at the next number does not reach one beyond
+  -- a value below the next number does not reach one beyond it
   not-beyond : suc m < inf f → (j : ℕ) → m < j → Reaches f w x j → ⊥
   not-beyond l j k r =
       let u = under-not-over x (2 * units f (suc m)) (b .high l) in
@@ -205,7 +205,7 @@ module _ (f : Format) (g : Fair f) (w : Way) (x : Exact) (s : Sound x) (m p : �
   differs-here : Reads (Same f x (rounded f w x) → ⊥) (leb 1 p)
   differs-here = reads-as (λ n e. n (same-here (rounded f w x) e), λ n u. n (here-same u)) (t .one)
 
-  -- ---- the law: what the flags are, by the cut
+  -- ---- the law: the flags by the lower neighbour and the location
   pub flags-by-cut : raisedBy f w x ≡ flagsAt f w m p
   unfolding raisedBy
   flags-by-cut =

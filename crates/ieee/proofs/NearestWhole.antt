@@ -1,4 +1,4 @@
--- The whole number nearest to a ratio, the even one of two: `whole even` gives it, and it is the only one. Assumes nothing.
+-- The whole number nearest to a ratio, ties to even: `whole even` gives it, and it is unique. Assumes nothing.
 use Prim.Native.Nat.{ℕ, zero, suc, _+_, _*_, _/_, _%_, _≤_, _<_}
 use mathlib.Core.Path.{_≡_}
 use mathlib.Core.Logic.{_⊎_, inl, inr}
@@ -26,7 +26,7 @@ whole-even-nearest u d p = go (or-reads (leb-reads _ _) (and-reads (eqb-reads _ 
           tie = λ t. let o = by-contra (u / d % 2) 0 (λ o. n (inr (omega (arith, div-mod u d p)))) in omega arith;
         }
 
--- of two different ones the greater is the next, and both are halfway
+-- of two different ones, the greater is the next, and both are halfway
 nearest-le : (u d m n : ℕ) → 0 < d → NearestTo u d m → NearestTo u d n → m ≤ n
 nearest-le u d m n p a b = by-contra m n (λ l. clash l (next l))
   where
@@ -39,7 +39,7 @@ nearest-le u d m n p a b = by-contra m n (λ l. clash l (next l))
 pub nearest-whole-unique : (u d m n : ℕ) → 0 < d → NearestTo u d m → NearestTo u d n → m ≡ n
 nearest-whole-unique u d m n p a b = both-ways m n (nearest-le u d m n p a b) (nearest-le u d n m p b a)
 
--- 0 is no nearer
+-- 0 is not nearer
 pub nearest-within : (u d n : ℕ) → NearestTo u d n → distance u (n * d) ≤ u
 nearest-within u d zero a = omega arith
 nearest-within u d (suc n) a = omega (arith, a .half)

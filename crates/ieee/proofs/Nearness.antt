@@ -36,7 +36,7 @@ within-higher n u v a b l h w = (by-contra ((u * b - a) * (u * b - a)) (n * (b *
         let t : v * b + a + (u * b - a) ≤ (u + v) * b = omega (arith, sq-lt 0 (u * b - a) (omega arith)) in
         omega (arith, s, mul-le-mul t t, times-le (b * b) h)
 
--- ---- and from the distances to the sum: a bound on the one distance that the other exceeds, half the gap or, where the root lies beyond v, up to its whole part
+-- ---- from the distances to the sum: a bound on one distance that the other exceeds, half the gap or, where the root lies beyond v, up to its whole part
 lower-within : (n u v : ℕ) → u < v → ((a b : ℕ) → 0 < b → Within n (pos v) a b → Within n (pos u) a b) → 4 * n ≤ (u + v) * (u + v)
 lower-within n u v l near = by-contra (4 * n) ((u + v) * (u + v)) (λ h. order (n * (2 * 2)) ((v * 2 + (v - u)) * (v * 2 + (v - u))) (inside h) (beyond (root-exists (4 * n)) h))
   where

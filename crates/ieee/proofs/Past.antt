@@ -1,4 +1,4 @@
--- `past` as a statement: it falls, it holds at 0, and it fails above infinity, so `rounded` is the last number at which it holds, and the only one.
+-- `past` as a statement: it holds at 0 and below each number at which it holds, and fails above infinity, so `rounded` is the last number at which it holds, and the only one.
 -- Assumes nothing.
 use Prim.Native.Nat.{ℕ, zero, suc, _+_, _*_, _%_, _^_, _≤_, _<_}
 use mathlib.Core.Path.{_≡_, refl, subst}
@@ -74,7 +74,7 @@ rounded-last f w x = greatest-last (past f w x) (f .frac + f .expo) 0 refl (past
 pub rounded-only : (f : Format) (w : Way) (x : Exact) → Sound x → (k : ℕ) → Last (past f w x) k → rounded f w x ≡ k
 rounded-only f w x s k l = last-unique (past f w x) (past-falls f w x s) (rounded f w x) k (rounded-last f w x) l
 
--- the same by statements: k is what x has passed, and it has not passed the next
+-- the same by statements: x has passed k, and not the next
 pub rounded-is : (f : Format) (w : Way) (x : Exact) → Sound x → (k : ℕ) → Past f w x k → (Past f w x (suc k) → ⊥) → rounded f w x ≡ k
 rounded-is f w x s k p n = rounded-only f w x s k (record { at = is-true (past-reads f w x k) p; next = is-false (past-reads f w x (suc k)) n })
 

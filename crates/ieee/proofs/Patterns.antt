@@ -1,4 +1,4 @@
--- Patterns taken apart and put together: sign, magnitude, kind and value. Assumes nothing.
+-- Patterns unpacked and packed: sign, magnitude, kind and value. Assumes nothing.
 use Prim.Native.Nat.{ℕ, suc, _+_, _-_, _%_, _^_, _≤_, _<_}
 use mathlib.Core.Path.{_≡_, refl, sym, ap, _∙_}
 use mathlib.Core.Bool.{Bool, true, false}
@@ -18,7 +18,7 @@ module _ (f : Format) where
   pub inf-below-top : inf f < top f
   inf-below-top = inf-lt f
 
-  -- infinity's pattern and one more exponent field are the sign bit
+  -- the pattern of infinity plus one unit of the exponent field is the sign bit
   pub infinity-top : inf f + 2 ^ f .frac ≡ top f
   infinity-top = omega (arith, diff (2 ^ f .frac) (pow-pos (f .expo)), pow-add 2 (f .frac) (f .expo))
 
@@ -65,7 +65,7 @@ module _ (f : Format) where
   unfolding kind
   kind-finite x l = rw (le-ltb (inf f) (magnitude f x) (omega arith), ne-eqb (magnitude f x) (inf f) (omega arith))
 
-  -- and back: a kind is one of the three, by the magnitude
+  -- the converse: the kind by the magnitude
   pub record Finite (x u : ℕ) : Type 0 where
     pub below : magnitude f x < inf f
     pub counts : units f (magnitude f x) ≡ u
@@ -112,7 +112,7 @@ module _ (f : Format) where
   unfolding value
   value-is x = refl
 
-  -- with its sign, and with its units, known
+  -- where its sign or its units are known
   pub value-with : (x : ℕ) (b : Bool) → minus f x ≡ b → value f x ≡ withSign b (units f (magnitude f x))
   value-with x b e = value-is x ∙ ap (λ c. withSign c (units f (magnitude f x))) e
 

@@ -99,7 +99,7 @@ module _ (f : Format) (g : Fair f) (a : Attribute) (s : Bool) (v : Value) where
   unfolding raised raisedBy
   flag-underflow = refl
 
-  -- ---- the three flags, by what they stand for
+  -- ---- the three flags, by their meaning
   pub inexact-reads : Reads (Exactly f v (answer f a s v) → ⊥) (raised f a s v .inexact)
   inexact-reads =
       rw flag-inexact (reads-as (λ h e. h (exactly-same .0 e), λ h e. h (exactly-same .1 e)) (differs-reads f w (absolute v)))
@@ -111,7 +111,7 @@ module _ (f : Format) (g : Fair f) (a : Attribute) (s : Bool) (v : Value) where
   underflow-reads =
       rw flag-underflow (and-reads (tiny-reads f g 1 (omega arith) w (absolute v) (sound v)) (rw flag-inexact at inexact-reads))
 
-  -- ---- how they go together
+  -- ---- how they combine
   overflow-differs : PastLargest f g w (absolute v) → Exactly f v (answer f a s v) → ⊥
   overflow-differs o e = same-not-overflows f g w (absolute v) (sound v) m (exactly-same .0 e) o
 
@@ -145,7 +145,7 @@ module _ (f : Format) (g : Fair f) (a : Attribute) (s : Bool) (v : Value) where
         infinity-overflow = λ e. is-true overflow-reads (infinity-overflows f g w (absolute v) (sound v) (sym answer-magnitude ∙ e));
       }
 
--- what settles the flags settles them alone
+-- the rule settles the flags
 pub same-when : {A : Type 0} (b c : Bool) → (b ≡ true) ↔ A → (c ≡ true) ↔ A → b ≡ c
 same-when true c h k = sym (k .1 (h .0 refl))
 same-when false true h k = h .1 (k .0 refl)
@@ -172,7 +172,7 @@ nearest-overflow f g to-away s v = (
   λ h. raised-rule f g ties-to-away s v .infinity-overflow h,
 )
 
--- ---- a number of the format is answered by itself, so whether inexact is raised does not depend on the attribute
+-- ---- a number of the format is its own answer, so inexact does not depend on the attribute
 pub same-rounded : (f : Format) → Fair f → (w : Way) (x : Exact) → Sound x → (m : ℕ) → Same f x m → rounded f w x ≡ m
 same-rounded f g w x s m h =
     local f w x s m (record { finite = h .finite; low = h .low; high = λ l o. apart x s (omega (arith, units-rise f m)) (h .high) o })

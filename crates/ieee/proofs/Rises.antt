@@ -1,4 +1,4 @@
--- A greater value rounds to no less. Assumes nothing.
+-- A greater value has no smaller rounding. Assumes nothing.
 use Prim.Native.Nat.{ℕ, suc, _*_, _≤_, _<_}
 use native.Mathlib.Omega.{arith, by-contra}
 use Rattle.algebra.proofs.Products.{times-le, mul-le-cancel}
@@ -8,7 +8,7 @@ use Rattle.ieee.specs.Round.{Way, even, away, shorter, longer, rounded}
 use Rattle.ieee.proofs.Sides.{Sound}
 use Rattle.ieee.proofs.Past.{Passes, past-down, rounded-past, rounded-not-past}
 
--- x ≤ y, by the whole numbers: whatever x is past, y is past; whatever y is before, x is before
+-- x ≤ y, by whole numbers: y is past whatever x is past; x is before whatever y is before
 pub record AtMost (x y : Exact) : Type 0 where
   pub ups : (s : ℕ) → Over x s → Over y s
   pub downs : (s : ℕ) → Under y s → Under x s

@@ -38,7 +38,7 @@ inf-even f g = go (2 ^ f .expo - 1) (2 ^ f .frac) (2 ^ (f .frac - 1)) (pow-diff 
     go : (a b c : ℕ) → c * 2 ≡ b → a * b % 2 ≡ 0
     go a b c e = omega (arith, times a e)
 
--- ---- what passing the place between m and the next says, and what not passing it says
+-- ---- what it means to pass the threshold between m and the next, and not to pass it
 passes-says : (f : Format) (t : Ties) (x : Exact) (j : ℕ) → Passes f (tiesWay t) x j → Over x (middle f j) × (Under x (middle f j) → Preferred t (suc j) j)
 passes-says f to-even x j p = p
 passes-says f to-away x j p = (p, λ u. omega arith)
@@ -83,7 +83,7 @@ module _ (f : Format) (g : Fair f) (t : Ties) (x : Exact) (s : Sound x) where
   from-middle : Over x (middle f (inf f - 1)) → Over x (halfway f)
   from-middle = over-down x (omega (arith, ap (units f) suc-last))
 
-  -- what was passed lies below, and the next not
+  -- the numbers passed lie below, and the next does not
   below : (m : ℕ) → Past f (tiesWay t) x m → (k : ℕ) → k < m → Over x (units f m + units f k) × (Under x (units f m + units f k) → Preferred t m k)
   below zero p k l = absurd (omega arith)
   below (suc i) p k l =

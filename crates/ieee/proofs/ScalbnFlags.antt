@@ -24,7 +24,7 @@ use Rattle.ieee.proofs.Cleans.{none-clean, either-clean, raised-clean}
 use Rattle.ieee.proofs.FarFlags.{huge-flags, small-flags, zero-flags}
 
 module _ (f : Format) (g : Fair f) where
-  -- ---- far enough, up or down, all values raise alike
+  -- ---- far enough up or down, all values raise the same flags
   up-flags : (w : Way) (u n : ℕ) → raisedBy f w (ratio (u * 2 ^ min n (reach f)) 1) ≡ raisedBy f w (ratio (u * 2 ^ n) 1)
   up-flags w zero n = ap (λ c. raisedBy f w (ratio c 1)) (omega arith)
   up-flags w (suc u) n = past-clamp (λ n. raisedBy f w (ratio (suc u * 2 ^ n) 1)) (reach f) (λ n h. huge (reach f) (omega arith) ∙ sym (huge n h)) n
@@ -59,7 +59,7 @@ module _ (f : Format) (g : Fair f) where
       let m = finite-is f x u h in
       ap (scalbnFlagsBy f a x n) h ∙ clamp-flags a (minus f x) u n (omega (arith, m .counts, units-lt f (m .below))) ∙ ap (raised f a (minus f x)) (scaled-exact f g x u n h)
 
-  -- so they go with the answer
+  -- so they are the flags of the answer
   pub scalbn-flags-rule : (a : Attribute) (x u : ℕ) (n : ℤ) → kind f x ≡ finite u → FlagsRule f a (minus f x) (exactScalbn f x n) (scalbnIn f a x n) (scalbnFlagsIn f a x n)
   scalbn-flags-rule a x u n h =
       subst₂ (FlagsRule f a (minus f x) (exactScalbn f x n)) (sym (scalbn-answer f g a x u n h)) (sym (scalbn-flags a x u n h)) (raised-rule f g a (minus f x) (exactScalbn f x n))

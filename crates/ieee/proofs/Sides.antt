@@ -6,7 +6,7 @@ use Rattle.algebra.proofs.Products.{times-le, cross}
 use Rattle.ieee.specs.Exact.{Exact, ratio, root, Over, Under, over, under}
 use Rattle.ieee.proofs.Decide.{Reads, leb-reads}
 
--- a ratio by zero is no number
+-- a ratio has a denominator other than zero
 abbrev pub Sound : Exact → Type 0
 Sound (ratio n d) = 0 < d
 Sound (root n) = Unit {0}

@@ -16,7 +16,7 @@ use Rattle.ieee.proofs.Decide.{Reads, holds, is-true, is-false, leb-rea
 use Rattle.ieee.proofs.Patterns.{infinity-top, finite-is, infinite-is}
 use Rattle.ieee.proofs.Verdicts.{reads-as}
 
--- a number, and an infinity, does not signal
+-- numbers and infinities do not signal
 pub infinity-silent : (f : Format) (x : ℕ) → magnitude f x ≤ inf f → signals f x ≡ false
 infinity-silent f x l = ap (λ b. b && ltb (fraction f x) (2 ^ (f .frac - 1))) (le-ltb (inf f) (magnitude f x) l)
 
@@ -27,7 +27,7 @@ pub infinite-silent : (f : Format) (x : ℕ) → kind f x ≡ infinite → signa
 infinite-silent f x h = infinity-silent f x (omega (arith, infinite-is f x h))
 
 module _ (f : Format) (g : Fair f) where
-  -- of the magnitudes above infinity, the fraction is what is more
+  -- above infinity, the magnitude is infinity plus the fraction
   fraction-is : (x : ℕ) → inf f < magnitude f x → magnitude f x ≡ inf f + fraction f x
   fraction-is x l =
       let t : magnitude f x < top f = mod-lt x (pow-pos (f .frac + f .expo)) in

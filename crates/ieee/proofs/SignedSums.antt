@@ -1,4 +1,4 @@
--- Sums of numbers with signs, by their magnitudes; x = n y + r over the integers, read as a sum without signs. Assumes nothing.
+-- Sums of signed numbers by their magnitudes; x = n y + r over the integers, as a sum without signs. Assumes nothing.
 use Prim.Native.Nat.{ℕ, _+_, _-_, _*_, _≤_, _<_}
 use mathlib.Core.Path.{_≡_, refl, sym, ap, _∙_, subst}
 use mathlib.Core.Logic.{_↔_}
@@ -50,7 +50,7 @@ sum-splits s p u w r =
     go true false = omega (arith, negZ (pos u), negZ (pos w))
     go true true = omega (arith, negZ (pos u), negZ (pos w), negZ (pos r))
 
--- ---- the sum of two numbers with signs, by their magnitudes
+-- ---- the sum of two signed numbers, by their magnitudes
 pub plus-like : (s : Bool) (a b : ℕ) → withSign s a +ℤ withSign s b ≡ withSign s (a + b)
 plus-like s a b = sym (sum-splits s s (a + b) a b .1 (subst (λ c. Splits c (a + b) a b) (sym (unlike-self s)) refl))
 
@@ -62,7 +62,7 @@ plus-less false a b l = +ℤ-comm (pos a) (negℤ (pos b)) ∙ plus-more true b 
 plus-less true a b l = +ℤ-comm (negℤ (pos a)) (pos b) ∙ plus-more false b a l
 
 -- ---- x = n y + r
--- where n is minus if the signs of x and y differ
+-- n is negative where the signs of x and y differ
 abbrev pub Remains : Format → ℕ → ℕ → ℕ → ℕ → Type 0
 Remains f x y r n = value f x ≡ withSign (unlike (minus f x) (minus f y)) n *ℤ value f y +ℤ value f r
 
@@ -80,7 +80,7 @@ remains-distance f x y r n e =
     go false u w r h = omega arith
     go true u w r h = omega arith
 
--- a sum that leaves something tells the sign of what it leaves
+-- a sum with a nonzero rest determines the sign of the rest
 pub same-sign : (s p q : Bool) (u w r : ℕ) → 0 < r → Splits (unlike s p) u w r → Splits (unlike s q) u w r → p ≡ q
 same-sign s false false u w r l h k = refl
 same-sign false false true u w r l h k = absurd (omega arith)

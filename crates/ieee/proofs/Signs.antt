@@ -1,4 +1,4 @@
--- Whole numbers with a sign: their product, their distance, and how near they are to an exact value. Assumes nothing.
+-- Signed whole numbers: their product, their distance, and how near they are to an exact value. Assumes nothing.
 use Prim.Native.Nat.{ℕ, zero, suc, _+_, _-_, _*_, _^_, _≤_, _<_}
 use mathlib.Core.Path.{_≡_, refl, sym, ap, _∙_}
 use mathlib.Core.Logic.{_↔_}
@@ -49,7 +49,7 @@ signed-times false u d = pos-*ℤ-pos u d
 signed-times true zero d = zero-*ℤ (pos d) ∙ ap (λ n. negℤ (pos n)) {x = 0} {y = 0 * d} (omega arith)
 signed-times true (suc u) d = negsuc-*ℤ-pos u d
 
--- the product of whole numbers with signs
+-- the product of signed whole numbers
 pub signed-product : (s t : Bool) (u v : ℕ) → withSign s u *ℤ withSign t v ≡ withSign (unlike s t) (u * v)
 signed-product false false u v = pos-*ℤ-pos u v
 signed-product false true u zero = *ℤ-zero (pos u) ∙ ap (λ n. negℤ (pos n)) {x = 0} {y = u * 0} (omega arith)
@@ -85,7 +85,7 @@ within-zero false u a b = (λ w. omega (arith, sq-le (u * b - a) 0 (omega arith)
 within-zero true zero a b = (λ w. omega arith, λ h. let e : 0 * b - a ≡ 0 = omega arith in (rw e (omega arith), omega arith))
 within-zero true (suc u) a b = (λ w. w .0, λ h. (h, omega arith))
 
--- nearest to the root of zero is zero
+-- only zero is nearest to the root of zero
 near-zero : (u : ℕ) → AsNear (absolute (surd 0)) u 0 → u ≡ 0
 near-zero u a = omega (arith, within-zero false u 0 1 .0 (a 0 1 (omega arith) (within-zero false 0 0 1 .1 (omega arith))))
 
@@ -98,7 +98,7 @@ near-like s (surd zero) u w = (
 )
 near-like s (surd (suc n)) u w = (λ h. h, λ h. h)
 
--- a bound on the distance of a root from a number below zero is one on its distance from zero
+-- a bound on the distance of a root from a negative number is one on its distance from zero
 within-minus : (n w a b : ℕ) → Within n (negℤ (pos w)) a b → Within n (pos 0) a b
 within-minus n zero a b q = q
 within-minus n (suc w) a b q =
@@ -106,13 +106,13 @@ within-minus n (suc w) a b q =
     let l : a - suc w * b ≤ 0 * b + a = omega arith in
     (rw e (omega arith), omega (arith, q .1, mul-le-mul l l))
 
--- what is as near as zero is as near as any number of the other sign
+-- a number as near as zero is as near as any number of the other sign
 pub near-unlike : (s : Bool) (v : Value) (u w : ℕ) → AsNear (absolute v) u 0 → AsNearℤ v (withSign (signOf s v) u) (withSign (not (signOf s v)) w)
 near-unlike s (dyadic z k) u w h = omega (arith, dyadic-like s z k u, dyadic-unlike s z k w)
 near-unlike s (surd zero) u w h = λ a b p q. within-zero s u a b .1 (omega (arith, ap (λ n. n * b) (near-zero u h)))
 near-unlike s (surd (suc n)) u w h = λ a b p q. h a b p (within-minus (suc n) w a b q)
 
--- and where a number of the other sign is as near as it, that number is zero
+-- where a number of the other sign is as near as it, that number is zero
 root-unlike : (n u w : ℕ) → AsNear (absolute (surd n)) u 0 → AsNearℤ (surd n) (negsuc w) (pos u) → ⊥
 root-unlike n u w h q = go (root-exists (4 * n))
   where

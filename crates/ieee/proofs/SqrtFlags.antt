@@ -44,7 +44,7 @@ module _ (f : Format) where
   pub sqrt-flags : (a : Attribute) (x u : ℕ) → kind f x ≡ finite u → (minus f x ≡ true → u ≡ 0) → sqrtFlagsIn f a x ≡ raised f a (minus f x) (exactSqrt f x)
   sqrt-flags a x u h z = flags-root a x u h z ∙ ap (raised f a (minus f x)) (root-exact f x u h)
 
-  -- so they go with the answer
+  -- so they are the flags of the answer
   pub sqrt-flags-rule : Fair f → (a : Attribute) (x u : ℕ) → kind f x ≡ finite u → (minus f x ≡ true → u ≡ 0)
       → FlagsRule f a (minus f x) (exactSqrt f x) (sqrtIn f a x) (sqrtFlagsIn f a x)
   sqrt-flags-rule g a x u h z =
@@ -90,7 +90,7 @@ module _ (f : Format) (g : Fair f) where
       let m = finite-is f x u h in
       omega (arith, m .counts, units-mono f {i = magnitude f x} {j = largest f} (omega (arith, m .below)))
 
-  -- with one exponent more than a fair format must have below 1, the root of the smallest number is normal
+  -- with one more exponent below 1 than a fair format must have, the root of the smallest number is normal
   not-tiny : f .frac + 1 < 2 ^ (f .expo - 1) → (w : Way) (u : ℕ) → 0 < u → BelowNormal f g w (root (u * 2 ^ low f)) → ⊥
   not-tiny c w u l t =
       let p = pow-add 2 (f .frac) (f .frac) in
@@ -114,7 +114,7 @@ module _ (f : Format) (g : Fair f) where
         go b false (finite (suc u)) d e h = subst G (sym (flags-root f a x (suc u) h (λ m. absurd (true≢false (sym m ∙ e))) ∙ ap (λ s. raised f a s (rootOf f (suc u))) e)) (r u h e)
         go b true (finite (suc u)) d e h = subst G (sym (sqrt-flag-rows a .of-minus x u h e)) i
 
-    -- whatever x is
+    -- for every x
     pub sqrt-clean : Clean (sqrtFlagsIn f a x)
     sqrt-clean = by-rows Clean none-clean invalid-clean (λ u h e. raised-clean f g a false (rootOf f (suc u)))
 

@@ -1,4 +1,4 @@
--- `units` rises: each next pattern is one gap higher. Assumes nothing.
+-- `units` rises: each pattern is one gap above the one before. Assumes nothing.
 use Prim.Native.Nat.{ℕ, zero, suc, _+_, _-_, _*_, _/_, _%_, _^_, _≤_, _<_}
 use mathlib.Core.Path.{_≡_, refl, sym, ap, _∙_}
 use native.Mathlib.Nat.{suc-mul, mul-add, mod-lt, div-add-mod', add-mul, two-pow-succ}
@@ -97,7 +97,7 @@ units-inj f i j e =
 pub units-fields : (f : Format) (i j : ℕ) → units f i ≡ units f j → (i / 2 ^ f .frac ≡ j / 2 ^ f .frac) × (i % 2 ^ f .frac ≡ j % 2 ^ f .frac)
 units-fields f i j e = let d = units-inj f i j e in (ap (λ m. m / 2 ^ f .frac) d, ap (λ m. m % 2 ^ f .frac) d)
 
--- what the number after the last finite one would be
+-- the number that would follow the largest finite one
 pub units-inf : (f : Format) → Fair f → units f (inf f) ≡ 2 ^ (f .frac + (2 ^ f .expo - 2))
 units-inf f g = ap (units f) (omega arith) ∙ units-at f (2 ^ f .expo - 1) 0 (pow-pos (f .frac)) ∙ step (2 ^ f .expo - 1) (2 ^ f .expo - 2) (omega (arith, four)) ∙ sym (pow-add 2 (f .frac) (2 ^ f .expo - 2))
   where

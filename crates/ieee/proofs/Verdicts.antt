@@ -1,4 +1,4 @@
--- Overflow and tininess: every number of exponent bits more gives one verdict, and it is one comparison in f. Assumes nothing.
+-- Overflow and tininess: every number of additional exponent bits gives the same verdict, which is one comparison in f. Assumes nothing.
 use Prim.Native.Nat.{ℕ, suc, _+_, _-_, _*_, _%_, _^_, _≤_, _<_}
 use mathlib.Core.Path.{_≡_, sym, ap, _∙_, subst}
 use mathlib.Core.Logic.{_↔_}
@@ -21,7 +21,7 @@ use Rattle.ieee.proofs.Rule.{inf-pos, inf-even}
 use Rattle.ieee.proofs.Directed.{rounded-toward}
 use Rattle.ieee.proofs.Wider.{at-least, magnified-sound, magnified-twice, Reaches, passes-reaches, reaches-moved, finer-pos, fit, units-shift}
 
--- a test for one statement is one for another that holds alike
+-- a test for a statement is one for an equivalent statement
 pub reads-as : {A B : Type 0} {b : Bool} → A ↔ B → Reads A b → Reads B b
 reads-as e (so a) = so (e .0 a)
 reads-as e (not-so n) = not-so (λ h. n (e .1 h))
@@ -51,7 +51,7 @@ module _ (f : Format) (g : Fair f) where
   half = pow-diff {a = f .frac} {b = 1} (g .frac-pos)
 
   -- ---- overflow
-  -- x reaches the number that would come after the largest
+  -- x reaches the number that would follow the largest
   abbrev pub PastLargest : Way → Exact → Type 0
   PastLargest w x = Reaches f w x (largest f)
 
@@ -88,7 +88,7 @@ module _ (f : Format) (g : Fair f) where
     abbrev d : ℕ
     d = finer f k
 
-    -- what is reached there by 2 ^ d x
+    -- the number that 2 ^ d x reaches there
     abbrev r : ℕ
     r = rounded e w (magnified x (2 ^ d))
 
@@ -183,7 +183,7 @@ module _ (f : Format) (g : Fair f) where
   unfolding widely
   below-every w x s = (λ h. (h .0, λ k l. tiny-as k l w x s .1 (h .1)), λ h. (h .0, tiny-as 1 (omega arith) w x s .0 (h .1 1 (omega arith))))
 
-  -- ---- unbounded: every number of exponent bits more gives the verdict of one
+  -- ---- unbounded: every number of additional exponent bits gives the verdict of one
   pub overflows-unbounded : (k : ℕ) → 1 ≤ k → (w : Way) (x : Exact) → Sound x → overflows f k w x ≡ overflows f 1 w x
   overflows-unbounded k l w x s = alike (overflows-reads k l w x s) (overflows-reads 1 (omega arith) w x s) (λ h. h, λ h. h)
 
@@ -220,14 +220,14 @@ module _ (f : Format) (g : Fair f) where
   pub beyond-reads : (w : Way) (x : Exact) → Sound x → Reads (Beyond f w x) (overflows f 1 w x)
   beyond-reads w x s = reads-as (overflows-beyond w x) (overflows-reads 1 (omega arith) w x s)
 
-  -- what does not exceed a number does not reach the next
+  -- a value that does not exceed a number does not reach the next
   pub not-reaches : (w : Way) (x : Exact) → Sound x → (j : ℕ) → Under x (2 * units f j) → Reaches f w x j → ⊥
   not-reaches even x s j u p = apart x s (omega (arith, units-rise f j)) u (p .0)
   not-reaches away x s j u p = apart x s (omega (arith, units-rise f j)) u p
   not-reaches shorter x s j u p = apart x s (omega (arith, units-rise f j)) u p
   not-reaches longer x s j u p = p u
 
-  -- ---- clause 7.4: what an overflow gives
+  -- ---- clause 7.4: the answer of an overflow
   at-infinity : (w : Way) (x : Exact) → Sound x → Passes f w x (largest f) → rounded f w x ≡ inf f
   at-infinity w x s p =
       both-ways (rounded f w x) (inf f) (rounded-le f w x) (omega (arith, suc-largest, at-least f w x s (suc (largest f)) .1 (omega (arith, suc-largest), p)))
@@ -241,7 +241,7 @@ module _ (f : Format) (g : Fair f) where
       both-ways (rounded f shorter x) (largest f) (omega (arith, t .finite, suc-largest)) m
   overflow-gives longer x s o = at-infinity longer x s o
 
-  -- and only an overflow gives infinity
+  -- only an overflow gives infinity
   pub infinity-overflows : (w : Way) (x : Exact) → Sound x → rounded f w x ≡ inf f → PastLargest w x
   infinity-overflows w x s e =
       let p = at-least f w x s (suc (largest f)) .0 (omega (arith, suc-largest)) in

@@ -29,11 +29,11 @@ module _ (f : Format) (g : Fair f) where
   rule-only shorter x s m r = toward-rounded f (inf-pos f g) x s m r
   rule-only longer x s m r = outward-rounded f (inf-pos f g) x s m r
 
-  -- and any two that meet it are equal
+  -- any two that meet it are equal
   pub rule-unique : (w : Way) (x : Exact) → Sound x → (i j : ℕ) → Rule f w x i → Rule f w x j → i ≡ j
   rule-unique w x s i j p q = sym (rule-only w x s i p) ∙ rule-only w x s j q
 
-  -- under every attribute an answer has the value's sign, and its magnitude meets the rule of the way that sign and attribute give
+  -- under every attribute an answer has the value's sign, and its magnitude meets the rule of the way for that sign and attribute
   pub answer-rule : (a : Attribute) (s : Bool) (v : Value)
       → (minus f (answer f a s v) ≡ signOf s v) × Rule f (wayOf a (signOf s v)) (absolute v) (magnitude f (answer f a s v))
   unfolding answer

@@ -1,4 +1,4 @@
--- The flags of trunc and floor, whatever the attribute: inexact exactly where a finite operand is changed. Assumes nothing.
+-- The flags of trunc and floor, under every attribute: inexact exactly where a finite operand is changed. Assumes nothing.
 use Prim.Native.Nat.{ℕ}
 use mathlib.Core.Path.{_≡_, refl, sym, ap, _∙_}
 use mathlib.Core.Bool.{not}
@@ -62,7 +62,7 @@ pub floor-flag-rows : (f : Format) → Fair f → WholeFlagRows f (floorOf f) (f
 unfolding floorOf floorFlags
 floor-flag-rows f g = whole-flag-rows f toward-negative g
 
--- trunc and floor raise the same flags, and so would every other attribute
+-- trunc and floor raise the same flags, as would every other attribute
 pub whole-flags-alike : (f : Format) → Fair f → (a b : Attribute) (x : ℕ) → Pattern f x → wholeFlagsIn f a x ≡ wholeFlagsIn f b x
 unfolding wholeFlagsIn wholeFlagsBy
 whole-flags-alike f g a b x p = go (kind f x)

@@ -1,4 +1,4 @@
--- A number sent to a whole number of ones, whatever the way, is held by the format. Assumes nothing.
+-- A number rounded to a whole number, whatever the way, is held by the format. Assumes nothing.
 use Prim.Native.Nat.{ℕ, zero, suc, _+_, _-_, _*_, _/_, _%_, _^_, _≤_, _<_}
 use mathlib.Core.Path.{_≡_, refl, sym, ap, _∙_}
 use mathlib.Core.Bool.{Bool, true, false, _&&_, _||_, cond}
@@ -19,7 +19,7 @@ use Rattle.ieee.proofs.Patterns.{inf-below-top, canonical-pattern, magn
 use Rattle.ieee.proofs.Fixed.{fixed-whole}
 use Rattle.ieee.proofs.Held.{held}
 
--- ---- the ways, of a quotient: one more at most, and a multiple stays
+-- ---- the ways of a quotient: at most one more, and a multiple is unchanged
 one-more : (q : ℕ) (b : Bool) → q + cond b 1 0 ≤ q + 1
 one-more q true = omega arith
 one-more q false = omega arith
@@ -48,7 +48,7 @@ whole-small w n d h p l =
     let q = mul-lt-cancel (n / d) h d (omega (arith, div-mod n d p)) in
     omega (arith, whole-most w n d)
 
--- ---- the numbers of a format: below 2 ^ frac ones, or whole
+-- ---- the numbers of a format: below 2 ^ frac, or whole
 module _ (f : Format) where
   fields-small-or-whole : (q t : ℕ) {G : Type 0} → t < 2 ^ f .frac →
       (fields (2 ^ f .frac) q t < 2 ^ f .frac * 2 ^ low f → G) → ((k : ℕ) → fields (2 ^ f .frac) q t ≡ k * 2 ^ low f → G) → G
@@ -65,7 +65,7 @@ module _ (f : Format) where
   small-or-whole : (m : ℕ) {G : Type 0} → (units f m < 2 ^ f .frac * 2 ^ low f → G) → ((k : ℕ) → units f m ≡ k * 2 ^ low f → G) → G
   small-or-whole m = rw (units-is f m) (fields-small-or-whole (m / 2 ^ f .frac) (m % 2 ^ f .frac) (mod-lt m (pow-pos (f .frac))))
 
-  -- 2 ^ frac ones are below infinity
+  -- 2 ^ frac is below infinity
   ones-below-infinity : Fair f → 2 ^ f .frac * 2 ^ low f < units f (inf f)
   ones-below-infinity g =
       let d = pow-diff {a = f .expo} {b = 1} (omega (arith, g .expo-two)) in
@@ -73,7 +73,7 @@ module _ (f : Format) where
       let l : f .frac + low f < f .frac + (2 ^ f .expo - 2) = omega (arith, g .frac-fits) in
       omega (arith, units-inf f g, pow-add 2 (f .frac) (low f), pow-lt l)
 
-  -- a finite number sent to a whole number of ones, whatever the way, is held
+  -- a finite number rounded to a whole number, whatever the way, is held
   whole-held : Fair f → (w : Way) (m : ℕ) → m < inf f → (n : ℕ) × (n < inf f) × (units f n ≡ whole w (units f m) (2 ^ low f) * 2 ^ low f)
   whole-held g w m l =
       small-or-whole m
@@ -83,7 +83,7 @@ module _ (f : Format) where
       (n, units-lt-inv f n (inf f) (omega (arith, times-le (2 ^ low f) b, ones-below-infinity g)), e))
       (λ k e. (m, l, e ∙ times (2 ^ low f) (sym (ap (λ u. whole w u (2 ^ low f)) e ∙ whole-multiple w k (2 ^ low f) (pow-pos (low f))))))
 
--- x with its magnitude sent the way w to a whole number of ones: r is that, exactly
+-- r is x with its magnitude rounded in the way w to a whole number, exactly
 pub record Sent (f : Format) (w : Way) (x r : ℕ) : Type 0 where
   pub pattern : Pattern f r
   pub finite : magnitude f r < inf f
@@ -105,7 +105,7 @@ signed-sent f w x n l e =
 pub sent-value : (f : Format) (w : Way) (x r : ℕ) → Sent f w x r → value f r ≡ withSign (minus f x) (whole w (units f (magnitude f x)) (2 ^ low f) * 2 ^ low f)
 sent-value f w x r s = value-is f r ∙ (λ i. withSign (s .sign i) (s .counts i))
 
--- ---- the operations, whatever the attribute
+-- ---- the operations, under every attribute
 module _ (f : Format) (a : Attribute) where
   pub wholeIn-finite : (x u : ℕ) → kind f x ≡ finite u → wholeIn f a x ≡ signed f (minus f x) (exactly f (whole (wayOf a (minus f x)) u (2 ^ low f) * 2 ^ low f))
   unfolding wholeIn wholeBy

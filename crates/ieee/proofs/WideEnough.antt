@@ -1,4 +1,4 @@
--- Wide enough: every value but zero lies among the normal numbers of some wider format, where no bound of the exponent touches it. Assumes nothing.
+-- Wide enough: every value but zero lies among the normal numbers of some wider format, where no bound of the exponent affects it. Assumes nothing.
 use Prim.Native.Nat.{ℕ, zero, suc, _+_, _-_, _*_, _^_, _≤_, _<_}
 use mathlib.Core.Path.{_≡_, sym, ap, _∙_}
 use native.Mathlib.Nat.{two-pow-succ, mul-le-mul}
@@ -25,7 +25,7 @@ module _ (f : Format) (g : Fair f) (k : ℕ) (l : 1 ≤ k) where
   two-below : 2 ≤ a
   two-below = pow-mono {i = 1} {j = f .expo - 1} (omega (arith, g .expo-two))
 
-  -- the exponents rise by more than k, and leave as many again above
+  -- the exponents rise by more than k, and leave as many above
   rise : a * 2 ^ k ≡ finer f k + a
   rise =
       let e : f .expo - 1 + k ≡ f .expo + k - 1 = omega (arith, g .expo-two) in

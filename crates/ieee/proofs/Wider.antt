@@ -1,4 +1,4 @@
--- A format with more exponent bits: its numbers beside those of f, and what a value rounds to there. Assumes nothing.
+-- A format with more exponent bits: its numbers beside those of f, and the rounding of a value there. Assumes nothing.
 use Prim.Native.Nat.{ℕ, zero, suc, _+_, _-_, _*_, _/_, _%_, _^_, _≤_, _<_}
 use mathlib.Core.Path.{_≡_, sym, ap, _∙_}
 use mathlib.Core.Logic.{_↔_}
@@ -15,14 +15,14 @@ use Rattle.ieee.proofs.Units.{units-at}
 use Rattle.ieee.proofs.Sides.{Sound}
 use Rattle.ieee.proofs.Past.{Passes, Past, past-down, rounded-past, rounded-not-past}
 
--- ---- what is rounded to at least k has passed it
+-- ---- a value whose rounding is at least k has passed k
 pub at-least : (f : Format) (w : Way) (x : Exact) → Sound x → (k : ℕ) → (k ≤ rounded f w x) ↔ Past f w x k
 at-least f w x s k = (
   λ h. past-down f w x s k (rounded f w x) h (rounded-past f w x),
   λ p. by-contra k (rounded f w x) (λ h. rounded-not-past f w x (past-down f w x s (suc (rounded f w x)) k h p)),
 )
 
--- ---- a value and a place, both p times as great
+-- ---- a value and a number, both times p
 pub magnified-beside : (x : Exact) (s p : ℕ) → 0 < p → (Over (magnified x p) (s * p) ↔ Over x s) × (Under (magnified x p) (s * p) ↔ Under x s)
 magnified-beside (ratio n d) s p l = (
   (λ h. mul-le-cancel (s * d) (2 * n) p l (omega arith), λ h. omega (arith, times-le p h)),
@@ -55,7 +55,7 @@ passes-reaches f away x j n = (λ p. p, λ p. p)
 passes-reaches f shorter x j n = (λ p. p .0, λ p. (p, n))
 passes-reaches f longer x j n = (λ p. p, λ p. p)
 
--- two formats whose numbers at two places are alike but for a factor p
+-- two formats whose numbers, at i and j and the next, differ by a factor p
 module _ (f e : Format) (p : ℕ) (l : 0 < p) (i j : ℕ) (u : units e j ≡ units f i * p) (v : units e (suc j) ≡ units f (suc i) * p)
     (q : suc i % 2 ≡ 0) (r : suc j % 2 ≡ 0) where
   over-moved : (x : Exact) (a b : ℕ) → b ≡ a * p → Over (magnified x p) b ↔ Over x a
@@ -87,7 +87,7 @@ module _ (f : Format) (g : Fair f) (k : ℕ) (l : 1 ≤ k) where
   pub finer-pos : 0 < finer f k
   finer-pos = omega (arith, finer-is, pow-lt {i = f .expo - 1} {j = f .expo + k - 1} (omega (arith, g .expo-two)))
 
-  -- the field of f's infinity is no field of the wider one's infinity
+  -- infinity's field of f is a finite field of the wider format
   fields-fit : 2 ^ f .expo - 1 + finer f k < 2 ^ (f .expo + k) - 1
   fields-fit =
       fits-by (2 ^ (f .expo - 1)) (2 ^ (f .expo + k - 1)) (2 ^ f .expo) (2 ^ (f .expo + k)) (finer f k) (pow-pos (f .expo - 1))
@@ -98,7 +98,7 @@ module _ (f : Format) (g : Fair f) (k : ℕ) (l : 1 ≤ k) where
   pub fit : inf f + finer f k * 2 ^ f .frac < inf (wider f k)
   fit = omega (arith, times-le (2 ^ f .frac) fields-fit, pow-pos (f .frac))
 
-  -- a normal number of f stands finer fields higher
+  -- a normal number of f is `finer` fields higher there
   pub units-shift : (m : ℕ) → 2 ^ f .frac ≤ m → units (wider f k) (m + finer f k * 2 ^ f .frac) ≡ units f m * 2 ^ finer f k
   units-shift m b = go (m / 2 ^ f .frac) (m % 2 ^ f .frac) (d .0) (d .1)
     where

@@ -1,1 +1,1 @@
-// What is right: definitions and their theorems, and no function.
+// The answers that are right: definitions and their theorems, no function.
