@@ -1,4 +1,4 @@
--- What rounding to the nearest even answers, from the magnitude at or below and how twice the value compares with the middle: the toolchain's `nearest`, up to infinity. Assumes nothing.
+-- Rounding to the nearest even by the lower neighbour and how twice the value compares with the middle: the toolchain's `nearest`, up to infinity. Assumes nothing.
 use Prim.Native.Nat.{ℕ, zero, suc, _+_, _*_, _%_, _≤_, _<_, compare, Ordering, Ordering·lt, Ordering·eq, Ordering·gt}
 use mathlib.Core.Path.{_≡_, sym, _∙_, subst}
 use mathlib.Core.Bool.{not}
@@ -13,7 +13,7 @@ use Rattle.ieee.specs.Round.{even, rounded, middle}
 use Rattle.ieee.proofs.Units.{units-rise, units-mono}
 use Rattle.ieee.proofs.Past.{Past, rounded-is}
 
--- ---- what `compare` says
+-- ---- the meaning of `compare`
 abbrev pub Cmp : Ordering → ℕ → ℕ → Type 0
 Cmp Ordering·lt a b = a < b
 Cmp Ordering·eq a b = a ≡ b
@@ -28,7 +28,7 @@ cmp a b = go (compare a b) (leb→le a b) (nleb→lt a b) (eqb→eq a b) (λ (e 
     go Ordering·gt h k e n = k tt
 
 module _ (f : Format) (n d : ℕ) (p : 0 < d) where
-  -- the value is past every magnitude that it reaches, and not past one above it
+  -- the value is past every magnitude that it reaches, and past none above it
   reached : (j : ℕ) → j ≤ inf f → units f j * d ≤ n → Past f even (ratio n d) j
   reached zero l h = tt
   reached (suc i) l h = (l, (omega (arith, times-le d (units-rise f i)), λ u. absurd (omega (arith, times-le d (units-rise f i)))))

@@ -1,4 +1,4 @@
--- The toolchain's controls that are patterns, whose answers are rustc's, carried over: the toolchain computes each, and the theorems say that it is ours. Assumes nothing.
+-- The toolchain's controls that are patterns, with rustc's answers: the toolchain computes each, and by the theorems it is ours. Assumes nothing.
 use mathlib.Core.Path.{_≡_, refl, sym, _∙_}
 use lib.Dec.{lit<}
 use lib.Ieee.{binary32, binary64, add, sub, mul, rem, ofBits, toBits}
@@ -25,7 +25,7 @@ rem-of-tenths : fmodOf b64 0x3fd3_3333_3333_3333 0x3fb9_9999_9999_999a ≡ 0x3fb
 unfolding rem ofBits toBits
 rem-of-tenths = sym (rem-same binary64 0x3fd3_3333_3333_3333 0x3fb9_9999_9999_999a (lit< tt)) ∙ refl
 
--- half of three smallest units is a tie, and goes up to two; the largest number doubled is infinity
+-- half of three smallest units is a tie, and rounds up to two; the largest number doubled is infinity
 half-of-three : fmaOf b32 3 0x3f00_0000 0x8000_0000 ≡ 2
 unfolding mul ofBits toBits
 half-of-three = sym (mul-same binary32 3 0x3f00_0000) ∙ refl

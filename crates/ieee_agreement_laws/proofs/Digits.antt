@@ -11,7 +11,7 @@ use Rattle.algebra.proofs.Powers.{pow-inj-lt}
 use Rattle.ieee.specs.Format.{Format, units, fields}
 use Rattle.ieee.proofs.Units.{units-is, units-at}
 
--- ---- a significand w at the exponent j is the magnitude j * 2 ^ frac + w; w may reach 2 ^ (frac + 1), which has one digit more
+-- ---- a significand w with the exponent j is the magnitude j * 2 ^ frac + w; w may reach 2 ^ (frac + 1), which has one more digit
 pub digits-units : (f : Format) (j w : ℕ) → (0 < j → 2 ^ f .frac ≤ w) → w ≤ 2 * 2 ^ f .frac → units f (j * 2 ^ f .frac + w) ≡ w * 2 ^ j
 digits-units f j w b h = order (2 ^ f .frac) w (λ l. order (2 * 2 ^ f .frac) w (full l) (part l)) (λ l. low j b l)
   where
@@ -29,13 +29,13 @@ digits-units f j w b h = order (2 ^ f .frac) w (λ l. order (2 * 2 ^ f .frac) w 
     low zero b l = units-at f 0 w l ∙ omega arith
     low (suc j) b l = absurd (omega (arith, b (omega arith)))
 
--- ---- what is kept of a number of more than p digits
+-- ---- the kept part of a number of more than p digits
 pub kept-pos : (p w : ℕ) → 0 < size w - suc p → 2 ^ p ≤ w / 2 ^ (size w - suc p)
 kept-pos p w h =
     le-div-iff-mul-le (pow-pos (size w - suc p)) .1
     (subst (λ (n : ℕ). n ≤ w) (pow-add 2 p (size w - suc p)) (size-reaches w (p + (size w - suc p)) (omega arith)))
 
--- ---- how many digits a magnitude has, and the magnitude back from its units
+-- ---- the number of digits of a magnitude, and the magnitude from its units
 size-is : (a n : ℕ) → 2 ^ a ≤ n → n < 2 ^ suc a → size n ≡ suc a
 size-is a n lo hi = both-ways (size n) (suc a) (size-le n (suc a) hi) (pow-inj-lt a (size n) (omega (arith, size-lt n)))
 

@@ -1,4 +1,4 @@
--- The toolchain's two formats, and ours: the same numbers under other names. Assumes nothing.
+-- The toolchain's two formats and ours: the same numbers under other names. Assumes nothing.
 use Prim.Native.Nat.{ℕ, suc, _+_, _-_, _*_, _/_, _^_}
 use mathlib.Core.Path.{_≡_, refl, sym, ap, _∙_}
 use lib.Ieee.{Format as Theirs, binary32, binary64, prec, emax, low as their-low, hid, ones, top as their-top}
@@ -45,6 +45,6 @@ reach-is : (k : Theirs) → their-low k + suc (emax k) ≡ ours k .frac + (2 ^ o
 reach-is binary32 = refl
 reach-is binary64 = refl
 
--- where the toolchain's numbers end
+-- the end of the toolchain's numbers
 pub end-is : (k : Theirs) → 2 ^ (their-low k + suc (emax k)) ≡ units (ours k) (inf (ours k))
 end-is k = ap (λ (n : ℕ). 2 ^ n) (reach-is k) ∙ sym (units-inf (ours k) (fair k))

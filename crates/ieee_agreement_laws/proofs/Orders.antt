@@ -20,7 +20,7 @@ use Rattle.ieee.proofs.Signs.{signed-tells, signed-zero}
 use Rattle.ieee_agreement_laws.specs.Toolchain.{ours}
 use Rattle.ieee_agreement_laws.proofs.Patterns.{unpacked}
 
--- ---- numbers with signs: one is less, or they are equal
+-- ---- signed numbers: one is less, or they are equal
 abbrev Less : Bool → ℕ → Bool → ℕ → Type 0
 Less false a false b = a < b
 Less false a true b = ⊥
@@ -45,7 +45,7 @@ our-less true a true b = (
   λ h. ltZ-of (negℤ (pos a)) (negℤ (pos b)) (omega (arith, negZ (pos a), negZ (pos b))),
 )
 
--- only zeros are equal with unlike signs
+-- of unlike signs only zeros are equal
 zero-or-like : (s t : Bool) (a : ℕ) → T (Bool·beq s t || eqb a 0) ↔ (0 < a → s ≡ t)
 zero-or-like false false a = (λ h l. refl, λ h. tt)
 zero-or-like true true a = (λ h l. refl, λ h. tt)

@@ -1,4 +1,4 @@
--- A pattern stands for the same in the toolchain's account and in ours, and is written alike. Assumes nothing.
+-- A pattern stands for the same in the toolchain's account and in ours, and both write it alike. Assumes nothing.
 use Prim.Native.Nat.{ℕ, zero, suc, _+_, _-_, _*_, _/_, _%_, _^_, _≤_, _<_}
 use mathlib.Core.Path.{_≡_, refl, sym, ap, _∙_, subst}
 use mathlib.Core.Bool.{Bool, true, false, not, cond}
@@ -45,7 +45,7 @@ module _ (k : Theirs) (s : Bool) where
   unfolding ofFields
   of-small t = refl
 
-  -- a significand c at the exponent j is so many units
+  -- a significand c with the exponent j is u units
   odd-same : (c j u : ℕ) → c * 2 ^ j ≡ u → Same (low (ours k)) (odd (prec k) s c j (their-low k)) s (finite u)
   odd-same c j u e =
       same-value (low (ours k)) (odd (prec k) s c j (their-low k)) s u
@@ -109,7 +109,7 @@ module _ (k : Theirs) (x : ℕ) where
       (λ h. let l : 2 ^ ours k .expo ≤ magnitude (ours k) x / 2 ^ ours k .frac = omega arith in
       omega (arith, times-le (2 ^ ours k .frac) l, div-add-mod' (magnitude (ours k) x) (2 ^ ours k .frac), mod-lt x (pow-pos (ours k .frac + ours k .expo)), pow-add 2 (ours k .frac) (ours k .expo)))
 
-  -- every pattern, and every number besides: what the toolchain reads is what we say it stands for
+  -- every pattern, and any other number too: what the toolchain reads is what we say it stands for
   pub pattern-same : Same (low (ours k)) (ofBits k x) (minus (ours k) x) (kind (ours k) x)
   pattern-same =
       subst (λ (v : Float). Same (low (ours k)) v (minus (ours k) x) (kind (ours k) x)) (sym read)
@@ -148,14 +148,14 @@ negated-read k x =
     ∙ fields-negated k (minus f x) (magnitude f x / 2 ^ f .frac) (magnitude f x % 2 ^ f .frac)
     ∙ ap neg (sym (read k x))
 
--- ---- a number, read by one account and by the other
+-- ---- a number, read by both accounts
 pub record Number (k : Theirs) (x : ℕ) (s : Bool) (m : ℕ) (e : ℤ) (u : ℕ) : Type 0 where
   pub read-as : ofBits k x ≡ fin s m e
   pub kind-is : kind (ours k) x ≡ finite u
   pub sign-is : s ≡ minus (ours k) x
   pub counts : m * up e * 2 ^ low (ours k) ≡ u * down e
 
--- it is one of theirs, and so it is one of ours
+-- a number of theirs is one of ours
 pub record Counted (k : Theirs) (x : ℕ) (s : Bool) (m : ℕ) (e : ℤ) : Type 0 where
   pub count : ℕ
   pub number : Number k x s m e count
@@ -172,7 +172,7 @@ counted k x s m e r = go (pattern-same k x) refl refl r
         let g : d ≡ e = cc in
         record { count = u; number = record { read-as = r; kind-is = q; sign-is = sym a ∙ p; counts = sym (λ i. b i * up (g i) * 2 ^ low (ours k)) ∙ c ∙ (λ i. u * down (g i)) } }
 
--- it is one of ours, and so it is one of theirs
+-- a number of ours is one of theirs
 pub record Unpacked (k : Theirs) (x u : ℕ) : Type 0 where
   pub significand : ℕ
   pub exponent : ℤ
@@ -202,7 +202,7 @@ module _ (k : Theirs) where
   unfolding toBits
   digits-of t c e n p = ap (λ (a : ℕ). cond t (their-top k) 0 + (size a - prec k) * hid k + a / 2 ^ (size a - prec k)) p
 
-  -- a number of so many units is written as the magnitude that we count so many units for
+  -- a number is written as the magnitude of its units
   pub write : (v : Float) (s : Bool) (m : ℕ) → HasValue v s (units (ours k) m) (2 ^ low (ours k)) → toBits k v ≡ signed (ours k) s m
   write their-nan s m h = absurd h
   write (their-inf t) s m h = absurd h
@@ -212,7 +212,7 @@ module _ (k : Theirs) where
       ∙ (λ i. cond (h .0 i) (top-is k i) 0 + (size n - prec-is k i) * hid-is k i + n / 2 ^ (size n - prec-is k i))
       ∙ omega (arith, units-back (ours k) m)
 
-  -- a pattern that is no NaN is read and written back
+  -- a pattern that is not a NaN is read and written back
   pub write-read : (x : ℕ) → Pattern (ours k) x → (kind (ours k) x ≡ nan → ⊥) → toBits k (ofBits k x) ≡ x
   write-read x p n = go (pattern-same k x) refl ∙ signed-is (ours k) x p
     where

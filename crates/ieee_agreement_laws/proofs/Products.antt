@@ -1,4 +1,4 @@
--- The exact product of two of the toolchain's values, before rounding, is our product of two kinds; and the toolchain's product is it, rounded. Assumes nothing.
+-- The exact product of two of the toolchain's values, before rounding, is our product of two kinds; the toolchain's product is that, rounded. Assumes nothing.
 use Prim.Native.Nat.{ℕ, zero, suc, _+_, _-_, _*_, _^_, _≤_, _<_}
 use mathlib.Core.Path.{_≡_, refl, sym, ap, _∙_, subst}
 use mathlib.Core.Bool.{Bool, true, false, not, _&&_, cond}
@@ -54,7 +54,7 @@ number-times l m n e d u v p q =
     mul-eq-cancel (m * n * up (e +ℤ d) * 2 ^ (l + l)) (u * v * down (e +ℤ d)) (down e * down d) (mul-pos (down-pos e) (down-pos d))
     (omega (arith, multiplied (down (e +ℤ d)) a, multiplied (m * n * (P * P)) (add-powers e d), multiplied (m * n * up (e +ℤ d) * (down e * down d)) (pow-add 2 l l)))
 
--- a product of units of 2 ^ -l counts units of 2 ^ -(l + l)
+-- a product of units of 2 ^ -l is in units of 2 ^ -(l + l)
 pub product-same : (l : ℕ) {v w : Float} {s t : Bool} {a b : Kind} → Same l v s a → Same l w t b → Same (l + l) (product v w) (unlike s t) (times a b)
 product-same l {t = t} (nans s) g = nans (unlike s t)
 product-same l (infinities s) (nans t) = nans (unlike s t)
@@ -64,7 +64,7 @@ product-same l (numbers s m e u p) (nans t) = nans (unlike s t)
 product-same l (numbers s m e u p) (infinities t) = infinity-times l m e u (unlike s t) p
 product-same l (numbers s m e u p) (numbers t n d v q) = numbers (unlike s t) (m * n) (e +ℤ d) (u * v) (number-times l m n e d u v p q)
 
--- ---- -0 added to a value rounds it, and changes nothing else
+-- ---- adding -0 to a value rounds it, and changes nothing else
 settle : (k : Theirs) (b t : Bool) → cond b their-nan (their-inf t) ≡ add k (cond b their-nan (their-inf t)) (fin true 0 (pos 0))
 unfolding add
 settle k true t = refl

@@ -20,7 +20,7 @@ use Rattle.ieee_agreement_laws.proofs.Patterns.{pattern-same, write-nan
 use Rattle.ieee_agreement_laws.proofs.Rounding.{round-as}
 use Rattle.ieee_agreement_laws.proofs.Products.{zero-of, not-zero-of}
 
--- ---- the rows of every remainder: r is their answer to two numbers, and g ours
+-- ---- the rows of every remainder: r is their answer for two numbers, and g ours
 module _ (k : Theirs) (r : Bool → ℕ → ℤ → ℕ → ℤ → Float) (g : Bool → ℕ → ℕ → ℕ)
     (alike : (s : Bool) (m : ℕ) (e : ℤ) (n : ℕ) (d : ℤ) (u v : ℕ) → m * up e * 2 ^ low (ours k) ≡ u * down e → n * up d * 2 ^ low (ours k) ≡ suc v * down d → toBits k (r s m e n d) ≡ g s u (suc v)) where
   rows-same : (x : ℕ) {v w : Float} {s t : Bool} {a b : Kind} → Same (low (ours k)) v s a → Same (low (ours k)) w t b → ((a ≡ nan → ⊥) → toBits k v ≡ x)
@@ -35,12 +35,12 @@ module _ (k : Theirs) (r : Bool → ℕ → ℤ → ℕ → ℤ → Float) (g : 
   rows-same x (numbers s m e u p) (numbers t n d (suc v) q) back =
       ap (λ c. toBits k (cond c their-nan (r s m e n d))) (ne-eqb n 0 (not-zero-of n d (low (ours k)) v q)) ∙ alike s m e n d u v p q
 
-  -- x has to be a pattern, since it comes back where y is infinite
+  -- x must be a pattern, since it is the answer where y is infinite
   pub divided-same : (x y : ℕ) → Pattern (ours k) x
       → toBits k (divided r (ofBits k x) (ofBits k y)) ≡ divide (canonical (ours k)) x (g (minus (ours k) x)) (kind (ours k) x) (kind (ours k) y)
   divided-same x y p = rows-same x (pattern-same k x) (pattern-same k y) (write-read k x p)
 
--- ---- a P = u D and b P = v D, so that what is left of a by b and what is left of u by v are in the same proportion
+-- ---- a P = u D and b P = v D, so the remainders of a by b and of u by v are in the same proportion
 pub left-scale : (a b P u v D : ℕ) → 0 < v → 0 < D → 0 < P → a * P ≡ u * D → b * P ≡ v * D → (a % b) * P ≡ left u v * D
 left-scale a b P u v D v-pos D-pos P-pos p q = quot-unique (v * D) (a / b) (a % b * P) (u / v) (left u v * D) small small′ same .1
   where

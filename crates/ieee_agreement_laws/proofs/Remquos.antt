@@ -1,4 +1,4 @@
--- Our remquo, from the toolchain's parts: x less so many y, as many as the nearest whole number to x / y says. Assumes nothing.
+-- Our remquo, from the toolchain's parts: x less n times y, where n is the whole number nearest to x / y. Assumes nothing.
 use Prim.Native.Nat.{ℕ, zero, suc, _+_, _-_, _*_, _/_, _%_, _^_, _<_, compare, Ordering, Ordering·lt, Ordering·eq, Ordering·gt}
 use mathlib.Core.Path.{_≡_, refl, sym, ap, _∙_}
 use mathlib.Core.Bool.{Bool, true, false, not, _&&_, _||_, cond}
@@ -49,11 +49,11 @@ module _ (k : Theirs) (s : Bool) (a b c u q : ℕ) (C : 0 < c) (A : a * 2 ^ low 
   B-one : b * 2 ^ low (ours k) * 1 ≡ q * c
   B-one = omega (arith, B)
 
-  -- by which is the greater
+  -- by which is greater
   chosen : (t : Bool) → ltb u q ≡ t → cond t (signed (ours k) (not s) (exactly (ours k) (q - u))) (signed (ours k) s (exactly (ours k) (u - q))) ≡ rest (ours k) s u q
   chosen t e = ap (λ b. cond b (signed (ours k) (not s) (exactly (ours k) (q - u))) (signed (ours k) s (exactly (ours k) (u - q)))) (sym e)
 
-  -- nothing is left: a zero with the sign of x, where their sum would be +0
+  -- a zero remainder has the sign of x, where their sum would be +0
   none : a ≡ b → toBits k (fin s 0 (pos 0)) ≡ rest (ours k) s u q
   none h =
       let f = ours k in
@@ -112,7 +112,7 @@ module _ (k : Theirs) (m : ℕ) (e : ℤ) (n : ℕ) (d : ℤ) (u v : ℕ) (p : m
       closest-same a b u (suc v) b-pos some r ∙ closest-is u (suc v)
 
 module _ (k : Theirs) where
-  -- the sum that `add` works out, over one denominator
+  -- the sum that `add` computes, over one denominator
   sum-of : (s : Bool) (m : ℕ) (e : ℤ) (j n : ℕ) (d : ℤ) → add k (fin s m e) (fin (not s) (j * n) d) ≡ sum k s (m * up e * down d) (not s) (j * (n * up d * down e)) (down e * down d)
   unfolding add
   sum-of s m e j n d = let r : j * n * up d * down e ≡ j * (n * up d * down e) = omega arith in ap (λ b. sum k s (m * up e * down d) (not s) b (down e * down d)) r

@@ -1,4 +1,4 @@
--- A root lies between two ratios that round as it does: so what rounds ratios tells how roots are rounded. Assumes nothing.
+-- A root lies between two ratios that round as it does, so rounding ratios determines the rounding of roots. Assumes nothing.
 use Prim.Native.Nat.{ℕ, zero, suc, _+_, _-_, _*_, _%_, _≤_, _<_}
 use mathlib.Core.Path.{_≡_, refl}
 use native.Mathlib.Omega.{arith, by-contra}
@@ -19,7 +19,7 @@ more-square M N D n h e p =
     let s : (n + 1) * (n + 1) ≡ M * D * (M * D) = λ i. p i * p i in
     omega (arith, times-le (D * D) h, times D e)
 
--- a ratio of which S holds rounds to r
+-- a ratio that meets S rounds to r
 pub record Beside (f : Format) (S : ℕ → ℕ → Type 0) (r : ℕ) : Type 0 where
   pub num : ℕ
   pub den : ℕ
@@ -70,7 +70,7 @@ module _ (f : Format) (N : ℕ) where
           }
 
   module _ (r : ℕ) (p : Past f even (root N) r) (n : Past f even (root N) (suc r) → ⊥) where
-    -- infinity, and all that is more
+    -- infinity and above
     huge : (r : ℕ) → Past f even (root N) r → inf f ≤ r → Above f N r
     huge r p h = record { num = N + 1; den = 1; sound = omega arith; holds = omega arith; rounds = rounded-is f even (ratio (N + 1) 1) (omega arith) r (at r p) (λ q. omega (arith, q .0)) }
       where

@@ -1,4 +1,4 @@
--- The toolchain's rounding is ours: of every fraction with a sign, to the nearest, ties to even, subnormal results and overflow included. Assumes nothing.
+-- The toolchain's rounding is ours: of every signed fraction, to the nearest, ties to even, with subnormal results and overflow. Assumes nothing.
 use Prim.Native.Nat.{ℕ, suc, _+_, _-_, _*_, _/_, _%_, _^_, _≤_, _<_, compare, Ordering, Ordering·lt, Ordering·eq, Ordering·gt}
 use mathlib.Core.Path.{_≡_, refl, sym, ap, _∙_, subst}
 use mathlib.Core.Bool.{Bool, false, cond}
@@ -40,7 +40,7 @@ up-to q Ordering·lt = omega arith
 up-to q Ordering·eq = omega arith
 up-to q Ordering·gt = omega arith
 
--- an even number before it does not matter
+-- adding an even number changes nothing
 nearest-after : (a q : ℕ) (o : Ordering) → a % 2 ≡ 0 → nearest (a + q) o ≡ a + nearest q o
 nearest-after a q Ordering·lt e = refl
 nearest-after a q Ordering·eq e = omega arith
@@ -52,7 +52,7 @@ even-field f g j = go (2 ^ f .frac) (2 ^ (f .frac - 1)) (pow-diff {a = f .frac} 
     go : (b c : ℕ) → c * 2 ≡ b → j * b % 2 ≡ 0
     go b c e = omega (arith, times j e)
 
--- ---- n / d units, cut to the digits that the format keeps
+-- ---- n / d units, truncated to the digits that the format keeps
 module _ (f : Format) (g : Fair f) (n d : ℕ) (p : 0 < d) where
   H : ℕ
   H = 2 ^ f .frac
@@ -92,7 +92,7 @@ module _ (f : Format) (g : Fair f) (n d : ℕ) (p : 0 < d) where
   unfolding q H
   q-full h = subst (λ (a : ℕ). 2 ^ f .frac ≤ a) (div-div-eq-div-mul n d (2 ^ j)) (kept-pos (f .frac) (n / d) h)
 
-  -- the magnitude at or below
+  -- the lower neighbour
   m : ℕ
   unfolding q H
   m = j * H + q
@@ -113,7 +113,7 @@ module _ (f : Format) (g : Fair f) (n d : ℕ) (p : 0 < d) where
   unfolding u
   before = omega (arith, times d next-units, split, r-small)
 
-  -- how the remainder compares with half of the divisor is how the value compares with the middle
+  -- the remainder compares with half of the divisor as the value does with the middle
   middle-is : middle f m * d ≡ 2 * (q * u) + u
   unfolding u
   middle-is = omega (arith, times d m-units, times d next-units)
@@ -131,7 +131,7 @@ module _ (f : Format) (g : Fair f) (n d : ℕ) (p : 0 < d) where
   unfolding o
   told = compares (compare (r * 2) u) (cmp (r * 2) u)
 
-  -- the magnitude that the toolchain's digits are
+  -- the magnitude of the toolchain's digits
   result : ℕ
   unfolding q o H
   result = j * H + nearest q o
@@ -159,7 +159,7 @@ module _ (f : Format) (g : Fair f) (n d : ℕ) (p : 0 < d) where
   infinite-end : units f (inf f) ≤ nearest q o * 2 ^ j → rounded f even (ratio n d) ≡ inf f
   infinite-end h = ends (by-contra (inf f) result (λ l. omega (arith, result-units, units-lt f l)))
 
-  -- in the toolchain's words: it keeps `kept` digits, and drops `drop`
+  -- in the toolchain's terms: it keeps `kept` digits, and drops `drop`
   finite-says : kept (suc (f .frac)) n d * 2 ^ drop (suc (f .frac)) n d < units f (inf f)
       → units f (rounded f even (ratio n d)) ≡ kept (suc (f .frac)) n d * 2 ^ drop (suc (f .frac)) n d
   unfolding q o
@@ -217,11 +217,11 @@ module _ (k : Theirs) (s : Bool) where
       ap (toBits k) (round-is k s num den) ∙ core-same (num * 2 ^ their-low k) den p
       ∙ ap (λ (l : ℕ). signed (ours k) s (rounded (ours k) even (ratio (num * 2 ^ l) den))) (low-is k)
 
-  -- by any ratio that is the same number of units
+  -- for any equal ratio of units
   pub round-as : (num den u d : ℕ) → 0 < den → 0 < d → num * 2 ^ low (ours k) * d ≡ u * den → toBits k (round k s num den) ≡ signed (ours k) s (rounded (ours k) even (ratio u d))
   round-as num den u d p q e = round-same num den p ∙ ap (signed (ours k) s) (ratio-same (ours k) even (num * 2 ^ low (ours k)) den u d p q e)
 
--- so the toolchain's rounding meets the standard's rule, as we state it: no finite number is nearer, ties to even, infinity from the halfway point on
+-- so the toolchain's rounding meets the standard's rule as we state it: no finite number is nearer, ties to even, infinity from the halfway point on
 pub round-nearest : (k : Theirs) (s : Bool) (num den : ℕ) → 0 < den → Nearest (ours k) to-even (ratio (num * 2 ^ low (ours k)) den) (magnitude (ours k) (toBits k (round k s num den)))
 round-nearest k s num den p =
     let f = ours k in
@@ -238,7 +238,7 @@ answer-same k s z c =
     round-as k (signOf s (dyadic z c)) (natAbs z) (2 ^ (c + low (ours k))) (natAbs z) (2 ^ c) (pow-pos (c + low (ours k))) (pow-pos c)
     (omega (arith, times (natAbs z) (pow-add 2 c (low (ours k)))))
 
--- a greater fraction is written as no less
+-- a greater fraction is not written as less
 pub written-rises : (k : Theirs) (a c b d : ℕ) → 0 < c → 0 < d → a * d ≤ b * c → toBits k (round k false a c) ≤ toBits k (round k false b d)
 written-rises k a c b d p q h =
     let P = 2 ^ low (ours k) in

@@ -1,5 +1,5 @@
--- Our square root, by the toolchain's rounding: the toolchain has no root, but it rounds fractions, and fractions on both sides of the root of x round to our answer.
--- So every fraction whose square is at most x rounds to at most our root, and every one whose square is at least x to at least it. Assumes nothing.
+-- Our square root, by the toolchain's rounding. The toolchain has no root, but it rounds fractions, and fractions on both sides of the root of x round to our answer.
+-- So every fraction whose square is at most x rounds to at most our root, and every one whose square is at least x to at least our root. Assumes nothing.
 use Prim.Native.Nat.{ℕ, zero, suc, _*_, _^_, _≤_, _<_}
 use mathlib.Core.Path.{_≡_, refl, sym, ap, _∙_, subst}
 use mathlib.Core.Bool.{true, false, true≢false}
@@ -89,7 +89,7 @@ module _ (k : Theirs) (m : ℕ) (e : ℤ) where
   reads : (r num den : ℕ) → toBits k (round k false num den) ≡ r → round k false num den ≡ ofBits k r
   reads r num den h = sym (ofBits-toBits k (round k false num den) (round-fits k false num den)) ∙ ap (ofBits k) h
 
-  -- in their order: what is at most the root rounds to at most r, and what is at least the root to at least r
+  -- in their order: a fraction at most the root rounds to at most r, and one at least the root to at least r
   least : (r : ℕ) → RootRounds k m e r → (a c : ℕ) → 0 < c → AtMostRoot m e a c → T (le (round k false a c) (ofBits k r))
   least r (u, o) a c s p =
       subst (λ v. T (le (round k false a c) v)) (reads r (o .num) (o .den) (o .rounds))
@@ -100,7 +100,7 @@ module _ (k : Theirs) (m : ℕ) (e : ℤ) where
       subst (λ v. T (le v (round k false a c))) (reads r (u .num) (u .den) (u .rounds))
       (round-mono k (u .num) (u .den) a c (u .sound) s (sides (u .num) (u .den) a c (m * up e) (down e) (down-pos e) (u .holds) p))
 
-  -- and two that are the root, rounded, are one
+  -- two roundings of the root are equal
   at-most : (q r : ℕ) → RootRounds k m e q → RootRounds k m e r → q ≤ r
   at-most q r (u, o) (u′, o′) =
       omega (arith, u .rounds, o′ .rounds, written-rises k (u .num) (u .den) (o′ .num) (o′ .den) (u .sound) (o′ .sound) (sides (u .num) (u .den) (o′ .num) (o′ .den) (m * up e) (down e) (down-pos e) (u .holds) (o′ .holds)))

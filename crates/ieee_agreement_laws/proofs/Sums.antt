@@ -48,7 +48,7 @@ their-none k true a b c h =
     ap (λ t. cond t (round k false (b - a) c) (round k (true && ltb b a) (a - b) c)) (le-ltb a b (omega arith))
     ∙ ap (λ t. round k (true && t) (a - b) c) (le-ltb b a (omega arith))
 
--- ---- of unlike signs: a / c and b / c are p / d and w / d units, and the sum is what is left of the greater
+-- ---- of unlike signs: a / c and b / c are p / d and w / d units, and the sum is the greater less the other
 module _ (k : Theirs) (s : Bool) (a b c p w d : ℕ) (C : 0 < c) (D : 0 < d) (A : a * 2 ^ low (ours k) * d ≡ p * c) (B : b * 2 ^ low (ours k) * d ≡ w * c) where
   P : ℕ
   P = 2 ^ low (ours k) * d
@@ -84,7 +84,7 @@ module _ (k : Theirs) (s : Bool) (a b c p w d : ℕ) (C : 0 < c) (D : 0 < d) (A 
       let z : a - b ≡ 0 = omega arith in
       ap (toBits k) (their-none k s a b c e ∙ ap (λ (n : ℕ). round k false n c) z) ∙ round-as k false 0 c 0 d C D (omega arith)
 
--- ---- a / c is p / 2 ^ low units, as an exact product is, and b / c is w units
+-- ---- a / c is p / 2 ^ low units, as for an exact product, and b / c is w units
 module _ (k : Theirs) (a b c p w : ℕ) (C : 0 < c) (A : a * 2 ^ (low (ours k) + low (ours k)) ≡ p * c) (B : b * 2 ^ low (ours k) ≡ w * c) where
   W : ℕ
   W = w * 2 ^ low (ours k)
@@ -99,7 +99,7 @@ module _ (k : Theirs) (a b c p w : ℕ) (C : 0 < c) (A : a * 2 ^ (low (ours k) +
   D : 0 < 2 ^ low (ours k)
   D = pow-pos (low (ours k))
 
-  -- their answer, as ours to an exact value of the sign t
+  -- their answer, as ours for an exact value of the sign t
   answered : (s t : Bool) (n : ℕ) (z : ℤ) → signOf s (dyadic (withSign t n) (low (ours k))) ≡ t → z ≡ withSign t n
       → signed (ours k) t (rounded (ours k) even (ratio n (2 ^ low (ours k)))) ≡ answer (ours k) ties-to-even s (dyadic z (low (ours k)))
   answered s t n z g e =
@@ -141,7 +141,7 @@ infinities-meet k false true = write-nan k
 infinities-meet k true false = write-nan k
 infinities-meet k true true = write-infinite k true
 
--- v counts 2 ^ -low of smallest units, as an exact product does
+-- v is in 2 ^ -low of smallest units, as for an exact product
 pub add-same : (k : Theirs) {v w : Float} {s t : Bool} {a b : Kind} → Same (low (ours k) + low (ours k)) v s a → Same (low (ours k)) w t b
     → toBits k (add k v w) ≡ plusBy (ours k) ties-to-even s a t b
 unfolding add plusBy

@@ -26,7 +26,7 @@ use Rattle.ieee_agreement_laws.proofs.Rounding.{round-as}
 use Rattle.ieee_agreement_laws.proofs.Remainders.{left-scale}
 
 -- ---- whole numbers, from a / b = u / P
--- something is cut off in the one account where something is in the other
+-- something is cut off in one account exactly where it is in the other
 cut-off : (a b P u : ℕ) → 0 < b → 0 < P → a * P ≡ u * b → (u % P ≡ 0) ↔ (a % b ≡ 0)
 cut-off a b P u s p h =
     let e : (a % b) * P ≡ left u P * b = left-scale a b P u P b p s p h (omega arith) in
@@ -46,7 +46,7 @@ down-same true a b P u s p h =
     ∙ one-more (eqb (a % b) 0) (u / P) (a / b) (sym (div-same a b u P s p h))
 
 module _ (k : Theirs) where
-  -- ---- the attribute a sends m 2 ^ e to the whole number c
+  -- ---- the attribute a rounds m 2 ^ e to the whole number c
   sends : (a : Attribute) (x : ℕ) (s : Bool) (c u : ℕ) → s ≡ minus (ours k) x → kind (ours k) x ≡ finite u → whole (wayOf a s) u (2 ^ low (ours k)) ≡ c → toBits k (round k s c 1) ≡ wholeIn (ours k) a x
   sends a x s c u r e q =
       let f = ours k in

@@ -1,6 +1,6 @@
--- Our definitions and the toolchain's account of IEEE 754 agree, at each of its two formats: the statements. Assumes nothing.
+-- Our definitions agree with the toolchain's account of IEEE 754, at each of its two formats: the statements. Assumes nothing.
 --
--- Its NaN has no payload, it rounds to the nearest even alone, and it has no status: of payloads, of the other attributes and of statuses nothing is said.
+-- Its NaN has no payload, it rounds only to the nearest even, and it has no status: nothing is said of payloads, other attributes and statuses.
 use Prim.Native.Nat.{ℕ, suc, _+_, _*_, _%_, _^_, _<_}
 use mathlib.Core.Path.{_≡_}
 use mathlib.Core.Logic.{_↔_}
@@ -24,7 +24,7 @@ use Rattle.ieee_agreement_laws.specs.Toolchain.{ours, on, Same, minusZer
 
 -- ---- what patterns stand for
 pub record Patterns (k : Theirs) : Type 0 where
-  -- the same kind, for all but NaNs the same sign, and for a number the same number
+  -- the same kind; the same sign, except for NaNs; for a number the same value
   pub reads : (x : ℕ) → Same (low (ours k)) (ofBits k x) (minus (ours k) x) (kind (ours k) x)
   -- their NaN is written as the canonical one and their infinities as ours; every pattern but a NaN's is written as it was read
   pub nan-written : toBits k their-nan ≡ canonical (ours k)
@@ -40,12 +40,12 @@ pub record Rounding (k : Theirs) : Type 0 where
   pub rounds : (s : Bool) (num den : ℕ) → 0 < den → toBits k (round k s num den) ≡ signed (ours k) s (rounded (ours k) even (ratio (num * 2 ^ low (ours k)) den))
   -- so their rounding meets our rule: no finite magnitude is nearer, a tie is even, infinity exactly from the halfway point on
   pub nearest : (s : Bool) (num den : ℕ) → 0 < den → Nearest (ours k) to-even (ratio (num * 2 ^ low (ours k)) den) (magnitude (ours k) (toBits k (round k s num den)))
-  -- and our answer of every exact value z / 2 ^ c units, s being the sign of a zero, is their rounding
+  -- our answer for every exact value z / 2 ^ c units, with s the sign of a zero, is their rounding
   pub answers : (s : Bool) (z : ℤ) (c : ℕ) → toBits k (round k (signOf s (dyadic z c)) (natAbs z) (2 ^ (c + low (ours k)))) ≡ answer (ours k) ties-to-even s (dyadic z c)
 
--- ---- their operations: on all patterns, NaNs, infinities and zeros among them, but for division
+-- ---- their operations, on all patterns with NaNs, infinities and zeros, except division
 pub record Operations (k : Theirs) : Type 0 where
-  -- our fma is their sum of the exact product and z; and that product is their own before it is rounded, since -0 added rounds a value and changes nothing else
+  -- our fma is their sum of the exact product and z; that product is theirs before rounding, since adding -0 rounds a value and changes nothing else
   pub product-rounds : (v w : Float) → mul k v w ≡ add k (product v w) (fin true 0 (pos 0))
   pub fma : (x y z : ℕ) → toBits k (add k (product (ofBits k x) (ofBits k y)) (ofBits k z)) ≡ fmaOf (ours k) x y z
   pub times : (x y : ℕ) → on mul k x y ≡ fmaOf (ours k) x y (minusZero (ours k))
@@ -57,21 +57,21 @@ pub record Operations (k : Theirs) : Type 0 where
   pub fmod : (x y : ℕ) → Pattern (ours k) x → on rem k x y ≡ fmodOf (ours k) x y
   pub scalbn : (x : ℕ) (n : ℤ) → Pattern (ours k) x → toBits k (mul k (ofBits k x) (power n)) ≡ scalbnOf (ours k) x n
 
--- ---- operations that they lack, made of their parts; the rows of NaNs and infinities are ours, but for remquo's, which are their remainder's
+-- ---- operations that they lack, made of their parts; the rows of NaNs and infinities are ours, except remquo's, which are their remainder's
 pub record Derived (k : Theirs) : Type 0 where
   pub trunc : (x : ℕ) → Pattern (ours k) x → toBits k (truncated k (ofBits k x)) ≡ truncOf (ours k) x
   pub floor : (x : ℕ) → Pattern (ours k) x → toBits k (floored k (ofBits k x)) ≡ floorOf (ours k) x
-  -- trunc is also a cast to an integer of h bits and a sign, or of h bits, and back: of a number in its range, where the sign of a zero is not lost
+  -- trunc is also a cast to an integer of h bits, with a sign or without, and back, for a number in range, where the sign of a zero is not lost
   pub signed-cast : (x : ℕ) (s : Bool) (m : ℕ) (e : ℤ) → ofBits k x ≡ fin s m e → (h : ℕ) → part m e < 2 ^ h → (s ≡ true → 0 < part m e) → toBits k (ofInt k (toSigned h (ofBits k x))) ≡ truncOf (ours k) x
   pub unsigned-cast : (x m : ℕ) (e : ℤ) → ofBits k x ≡ fin false m e → (h : ℕ) → part m e < 2 ^ h → toBits k (ofInt k (pos (toUnsigned h (ofBits k x)))) ≡ truncOf (ours k) x
   -- remquo: all patterns; the quotient of two numbers
   pub remquo : (x y : ℕ) → Pattern (ours k) x → on remainder k x y ≡ remquoOf (ours k) x y
   pub quotient : (x y : ℕ) (s t : Bool) (m n : ℕ) (e d : ℤ) → ofBits k x ≡ fin s m e → ofBits k y ≡ fin t n d → 0 < n
       → quotientOf (ours k) x y ≡ withSign (unlike s t) (nearestTo m e n d % 2 ^ 31)
-  -- sqrt of a number without a sign: some fraction at most the root and some fraction at least the root are rounded to our answer, and to no other pattern are both
+  -- sqrt of a number without a sign: some fraction at most the root and some fraction at least the root both round to our answer, and to no other pattern do both
   pub root : (x m : ℕ) (e : ℤ) → ofBits k x ≡ fin false m e → RootRounds k m e (sqrtOf (ours k) x)
   pub root-only : (x m : ℕ) (e : ℤ) → ofBits k x ≡ fin false m e → (r : ℕ) → RootRounds k m e r → r ≡ sqrtOf (ours k) x
-  -- so, in their order, every fraction at most the root is rounded to at most our answer, and every one at least the root to at least it
+  -- so, in their order, every fraction at most the root rounds to at most our answer, and every one at least the root to at least our answer
   pub root-least : (x m : ℕ) (e : ℤ) → ofBits k x ≡ fin false m e → (a c : ℕ) → 0 < c → AtMostRoot m e a c → T (le (round k false a c) (ofBits k (sqrtOf (ours k) x)))
   pub root-most : (x m : ℕ) (e : ℤ) → ofBits k x ≡ fin false m e → (a c : ℕ) → 0 < c → AtLeastRoot m e a c → T (le (ofBits k (sqrtOf (ours k) x)) (round k false a c))
 

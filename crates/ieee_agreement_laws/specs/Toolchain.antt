@@ -1,4 +1,4 @@
--- The toolchain's account of IEEE 754, `lib.Ieee`, by which it says what f32 and f64 are, and what it takes to hold ours beside it. Assumes nothing.
+-- The toolchain's account of IEEE 754, `lib.Ieee`, which defines f32 and f64, and what is needed to compare ours with it. Assumes nothing.
 --
 -- A value of theirs is a NaN, without sign or payload, an infinity, or `fin s m e`: the number m 2 ^ e with the sign s, where 2 ^ e is the fraction up e / down e.
 use Prim.Native.Nat.{ℕ, _+_, _*_, _/_, _%_, _^_, _≤_, _<_}
@@ -11,16 +11,16 @@ use lib.Ieee.Nearest.{closest}
 use Rattle.ieee.specs.Format.{Format, b32, b64, bias}
 use Rattle.ieee.specs.Pattern.{minus, magnitude, signed, unlike, Kind, nan, infinite, finite}
 
--- their formats are two, and these are the same two
+-- their formats are two, and these are the same
 abbrev pub ours : Theirs → Format
 ours binary32 = b32
 ours binary64 = b64
 
--- an operation of theirs, on patterns: both read, and the answer written
+-- an operation of theirs on patterns: both are read, and the answer is written
 abbrev pub on : (Theirs → Float → Float → Float) → Theirs → ℕ → ℕ → ℕ
 on op k x y = toBits k (op k (ofBits k x) (ofBits k y))
 
--- a value of theirs, and a sign and a kind of ours, are the same; of a number, m 2 ^ e = u / 2 ^ l, for units of 2 ^ -l
+-- a value of theirs is the same as a sign and a kind of ours; for a number, m 2 ^ e = u / 2 ^ l, in units of 2 ^ -l
 pub data Same (l : ℕ) : Float → Bool → Kind → Type 0 where
   nans : (s : Bool) → Same l their-nan s nan
   infinities : (s : Bool) → Same l (their-inf s) s infinite
@@ -38,7 +38,7 @@ abbrev pub negated : Format → ℕ → ℕ
 negated f x = signed f (not (minus f x)) (magnitude f x)
 
 -- ---- operations that they lack, made of their parts
--- the exact product, whether or not a format holds it: their sum takes any value, so that the sum of this and z is an fma
+-- the exact product, whether or not a format holds it: their sum takes any value, so its sum with z is an fma
 abbrev pub product : Float → Float → Float
 product their-nan w = their-nan
 product (their-inf s) their-nan = their-nan
@@ -61,20 +61,20 @@ truncated k their-nan = their-nan
 truncated k (their-inf s) = their-inf s
 truncated k (fin s m e) = round k s (part m e) 1
 
--- where something is cut off a number below zero, the whole part and one more
+-- the whole part, and one more where a negative number is not whole
 abbrev pub floored : Theirs → Float → Float
 floored k their-nan = their-nan
 floored k (their-inf s) = their-inf s
 floored k (fin s m e) = round k s (part m e + cond (s && not (eqb (m * up e % down e) 0)) 1 0) 1
 
--- the whole number that is nearest to m 2 ^ e over n 2 ^ d, a tie to the even one, and whether it is that fraction exactly
+-- the whole number nearest to m 2 ^ e over n 2 ^ d, ties to even, and whether it is that fraction exactly
 abbrev pub nearestTo : ℕ → ℤ → ℕ → ℤ → ℕ
 nearestTo m e n d = closest (m * up e * down d) (n * up d * down e)
 
 abbrev pub divides : ℕ → ℤ → ℕ → ℤ → Bool
 divides m e n d = eqb (m * up e * down d) (nearestTo m e n d * (n * up d * down e))
 
--- the rows of their remainder, with r for two numbers of which the second is not zero
+-- the rows of their remainder, with r for two numbers, the second not zero
 abbrev pub divided : (Bool → ℕ → ℤ → ℕ → ℤ → Float) → Float → Float → Float
 divided r their-nan w = their-nan
 divided r (their-inf s) w = their-nan
@@ -82,7 +82,7 @@ divided r (fin s m e) their-nan = their-nan
 divided r (fin s m e) (their-inf t) = fin s m e
 divided r (fin s m e) (fin t n d) = cond (eqb n 0) their-nan (r s m e n d)
 
--- what is left of m 2 ^ e by n 2 ^ d, to the nearest, with the sign s, which a zero has too
+-- the remainder of m 2 ^ e by n 2 ^ d, to the nearest, with the sign s, which a zero has too
 abbrev pub nearestLeft : Theirs → Bool → ℕ → ℤ → ℕ → ℤ → Float
 nearestLeft k s m e n d = cond (divides m e n d) (fin s 0 (pos 0)) (add k (fin s m e) (fin (not s) (nearestTo m e n d * n) d))
 
@@ -97,7 +97,7 @@ AtMostRoot m e a c = a * a * down e ≤ m * up e * (c * c)
 abbrev pub AtLeastRoot : ℕ → ℤ → ℕ → ℕ → Type 0
 AtLeastRoot m e a c = m * up e * (c * c) ≤ a * a * down e
 
--- they round and write as r a fraction of which S holds
+-- some fraction that meets S rounds to r
 pub record SomeRounds (k : Theirs) (S : ℕ → ℕ → Type 0) (r : ℕ) : Type 0 where
   pub num : ℕ
   pub den : ℕ
@@ -105,6 +105,6 @@ pub record SomeRounds (k : Theirs) (S : ℕ → ℕ → Type 0) (r : ℕ) : Type
   pub holds : S num den
   pub rounds : toBits k (round k false num den) ≡ r
 
--- r is the root of m 2 ^ e, rounded: what they make of a fraction at most the root, and of one at least the root
+-- r is the root of m 2 ^ e, rounded: their rounding of a fraction at most the root, and of one at least the root
 abbrev pub RootRounds : Theirs → ℕ → ℤ → ℕ → Type 0
 RootRounds k m e r = SomeRounds k (AtMostRoot m e) r × SomeRounds k (AtLeastRoot m e) r

@@ -1,1 +1,1 @@
-// The definitions agree with the account of IEEE 754 that the toolchain has: theorems, and no function.
+// Laws of agreement with the toolchain's account of IEEE 754: definitions and lemmas, no function.
