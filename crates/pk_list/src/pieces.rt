@@ -1,6 +1,11 @@
 // A piece of a list file: passed to the list call, with one line written for each of its places.
+ghost use mathlib.Core.Path.{_≡_};
+ghost use mathlib.Core.List.{_++_};
 ghost use Prim.Native.Nat.{_≤_};
-ghost use lib.ListN.{length};
+ghost use lib.ListN.{length, take, drop};
+ghost use Rattle.ieee.specs.Format.{b64};
+ghost use Rattle.ieee.specs.Lists.{listOf};
+ghost use Rattle.ieee.specs.Refusal.{numberOf, valueOf};
 use crate::place::with_refusal;
 use crate::place::write_place;
 use cmd_operations::line::Line;
@@ -103,9 +108,12 @@ fn count_marks(marks: &[u64; 8192], n: usize) -> u64
     bad
 }
 
-// The list call on the first n places.
+// The list call on the first n places: the output keeps the others.
 fn list_first(op: u32, xs: &[u64], ys: &mut [u64], n: usize) -> Listed64
     requires { ⌜ (n ≤ length (now xs)) × (n ≤ length (now ys)) ⌝ }
+    ensures { λ r. ⌜ (r .refusal ≡ numberOf (listOf b64 op (take n (now (xs .entry))) (take n (now (ys .entry))) .answer))
+        × (r .value ≡ valueOf (listOf b64 op (take n (now (xs .entry))) (take n (now (ys .entry))) .answer))
+        × (now (ys .exit) ≡ listOf b64 op (take n (now (xs .entry))) (take n (now (ys .entry))) .output ++ drop n (now (ys .entry))) ⌝ }
 {
     list64(op, &xs[0..n], &mut ys[0..n])
 }
