@@ -1,2 +1,3 @@
 pub mod Digits
 pub mod LongDivision
+pub mod Only
