@@ -1,4 +1,8 @@
 // Reads a request: an operation's name, then its operands.
+ghost use mathlib.Core.Path.{_≡_};
+ghost use Prim.Native.Nat.{_+_, min};
+ghost use Rattle.cmd_operations.specs.Request.{nameOf};
+ghost use Rattle.cmd_operations.specs.Table.{rowOf};
 use crate::complaint::Complaint;
 use crate::complaint::FINE;
 use crate::complaint::complaint_of;
@@ -98,7 +102,9 @@ fn read_field(f: &[u8], kind: u8) -> Taken {
     }
 }
 
-fn start(row: Row, what: u8) -> Request {
+fn start(row: Row, what: u8) -> Request
+    ensures { λ q. ⌜ q .row ≡ row ⌝ }
+{
     Request {
         row: row,
         operands: Operands {
@@ -112,7 +118,9 @@ fn start(row: Row, what: u8) -> Request {
     }
 }
 
-fn complain(mut r: Request, what: u8, index: usize, kind: u8) -> Request {
+fn complain(mut r: Request, what: u8, index: usize, kind: u8) -> Request
+    ensures { λ q. ⌜ q .row ≡ r .row ⌝ }
+{
     let mut c = complaint_of(what);
     c.index = std::num::wrapping_add_u64(index as u64, 1);
     c.fault = what;
@@ -122,7 +130,9 @@ fn complain(mut r: Request, what: u8, index: usize, kind: u8) -> Request {
 }
 
 // The request with one more operand, or with the operand's fault.
-fn with_operand(mut r: Request, t: Taken, kind: u8, index: usize, size: usize) -> Request {
+fn with_operand(mut r: Request, t: Taken, kind: u8, index: usize, size: usize) -> Request
+    ensures { λ q. ⌜ q .row ≡ r .row ⌝ }
+{
     if t.fault != FINE {
         let mut bad = complain(r, t.fault, index, kind);
         bad.complaint.size = size as u64;
@@ -156,7 +166,9 @@ fn end_of(s: &[u8], begin: usize, kind: u8) -> usize {
 }
 
 // Reads the operands, each after a blank, from the end of the name.
-fn read_operands(s: &[u8], first: Request, from: usize) -> Request {
+fn read_operands(s: &[u8], first: Request, from: usize) -> Request
+    ensures { λ q. ⌜ q .row ≡ first .row ⌝ }
+{
     let mut r = first;
     let mut at = from;
     let mut index = 0;
@@ -184,7 +196,9 @@ fn read_operands(s: &[u8], first: Request, from: usize) -> Request {
 }
 
 // Reads the attribute after the dot that ends a name.
-fn with_attribute(mut r: Request, f: &[u8]) -> Request {
+fn with_attribute(mut r: Request, f: &[u8]) -> Request
+    ensures { λ q. ⌜ q .row ≡ r .row ⌝ }
+{
     let t = read_attribute(f);
     if t.fault != FINE {
         let mut c = complaint_of(Text::TheAttribute as u8);
@@ -199,7 +213,9 @@ fn with_attribute(mut r: Request, f: &[u8]) -> Request {
 }
 
 // The end of the name: after the first dot, if there is one before `end`.
-fn name_end(dot: usize, end: usize) -> usize {
+fn name_end(dot: usize, end: usize) -> usize
+    ensures { λ r. ⌜ r ≡ min (dot + 1) end ⌝ }
+{
     if dot < end { dot + 1 } else { end }
 }
 
@@ -226,7 +242,9 @@ fn fields_end(s: &[u8], row: Row, end: usize) -> usize {
 }
 
 // Reads the request in s.
-pub fn read_request(s: &[u8]) -> Request {
+pub fn read_request(s: &[u8]) -> Request
+    ensures { λ q. ⌜ q .row ≡ rowOf (nameOf (now (s .entry))) ⌝ }
+{
     let end = find(s, 0, b' ');
     let dot = find(s, 0, b'.');
     let from = name_end(dot, end);
