@@ -1,11 +1,10 @@
 // The rows of fma: the answers where an operand is an infinity or a NaN, or the product is a zero.
 ghost use mathlib.Core.Path.{_≡_};
 ghost use mathlib.Core.Logic.{_⊎_};
-ghost use Prim.Native.Nat.{_≤_, _<_};
-ghost use Rattle.ieee.specs.Format.{inf};
-ghost use Rattle.ieee.specs.Pattern.{Pattern, magnitude};
+ghost use Rattle.ieee.specs.Pattern.{Pattern};
 ghost use Rattle.ieee.specs.Fma.{fmaOf};
 ghost use Rattle.fmt_fields.specs.Width.{format, Fits};
+ghost use Rattle.fmt_decode.specs.Classes.{Zero, Finite, Infinite, NotNan};
 ghost use Rattle.fma.specs.Special.{Special};
 use fmt_fields::is_negative;
 use fmt_fields::pattern::infinity;
@@ -15,7 +14,9 @@ use fmt_fields::with_sign;
 
 // x or y is infinite: its product with a zero is invalid, and so is its sum with an infinite z of the other sign.
 pub fn of_infinite_product(frac: u32, expo: u32, x: u64, y: u64, z: u64) -> u64
-    requires { ⌜ Fits frac expo × (magnitude (format frac expo) x ≤ inf (format frac expo)) × (magnitude (format frac expo) y ≤ inf (format frac expo)) × (magnitude (format frac expo) z ≤ inf (format frac expo)) × ((magnitude (format frac expo) x ≡ inf (format frac expo)) ⊎ (magnitude (format frac expo) y ≡ inf (format frac expo))) ⌝ }
+    requires { ⌜ Fits frac expo
+        × NotNan (format frac expo) x × NotNan (format frac expo) y × NotNan (format frac expo) z
+        × (Infinite (format frac expo) x ⊎ Infinite (format frac expo) y) ⌝ }
     ensures { λ r. ⌜ r ≡ fmaOf (format frac expo) x y z ⌝ }
 {
     if magnitude_of(frac, expo, x) == 0 {
@@ -38,7 +39,9 @@ pub fn of_infinite_product(frac: u32, expo: u32, x: u64, y: u64, z: u64) -> u64
 
 // A zero product leaves z; two zeros of unlike signs give +0.
 pub fn of_zero_product(frac: u32, expo: u32, x: u64, y: u64, z: u64) -> u64
-    requires { ⌜ Fits frac expo × Pattern (format frac expo) z × (magnitude (format frac expo) x < inf (format frac expo)) × (magnitude (format frac expo) y < inf (format frac expo)) × (magnitude (format frac expo) z < inf (format frac expo)) × ((magnitude (format frac expo) x ≡ 0) ⊎ (magnitude (format frac expo) y ≡ 0)) ⌝ }
+    requires { ⌜ Fits frac expo × Pattern (format frac expo) z
+        × Finite (format frac expo) x × Finite (format frac expo) y × Finite (format frac expo) z
+        × (Zero (format frac expo) x ⊎ Zero (format frac expo) y) ⌝ }
     ensures { λ r. ⌜ r ≡ fmaOf (format frac expo) x y z ⌝ }
 {
     if magnitude_of(frac, expo, z) > 0 {

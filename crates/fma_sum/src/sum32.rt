@@ -24,7 +24,9 @@ const LOW: u32 = 149;
 // The product of two nonzero numbers, doubled, with its exponent and its sign.
 pub fn product_of(x: u64, y: u64) -> Product32
     requires { ⌜ (aside b32 x ≡ false) × (aside b32 y ≡ false) ⌝ }
-    ensures { λ r. ⌜ (r .sig ≡ productSig b32 x y) × (r .exp ≡ normExpOf b32 x +ℤ normExpOf b32 y) × (r .neg ≡ unlike (minus b32 x) (minus b32 y)) × (mag (r .exp) < 2 ^ 18) ⌝ }
+    ensures { λ r. ⌜ (r .sig ≡ productSig b32 x y)
+        × (r .exp ≡ normExpOf b32 x +ℤ normExpOf b32 y) × (r .neg ≡ unlike (minus b32 x) (minus b32 y))
+        × (mag (r .exp) < 2 ^ 18) ⌝ }
 {
     multiply32(norm_of(23, 8, x), norm_of(23, 8, y))
 }

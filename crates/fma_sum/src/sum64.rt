@@ -26,7 +26,9 @@ const LOW: u32 = 1074;
 // The product of two nonzero numbers, doubled, with its exponent and its sign.
 pub fn product_of(x: u64, y: u64) -> Product64
     requires { ⌜ (aside b64 x ≡ false) × (aside b64 y ≡ false) ⌝ }
-    ensures { λ r. ⌜ (value (r .sig) ≡ productSig b64 x y) × (r .exp ≡ normExpOf b64 x +ℤ normExpOf b64 y) × (r .neg ≡ unlike (minus b64 x) (minus b64 y)) × (mag (r .exp) < 2 ^ 18) ⌝ }
+    ensures { λ r. ⌜ (value (r .sig) ≡ productSig b64 x y)
+        × (r .exp ≡ normExpOf b64 x +ℤ normExpOf b64 y) × (r .neg ≡ unlike (minus b64 x) (minus b64 y))
+        × (mag (r .exp) < 2 ^ 18) ⌝ }
 {
     multiply64(norm_of(52, 11, x), norm_of(52, 11, y))
 }

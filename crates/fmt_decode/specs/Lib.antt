@@ -1,3 +1,4 @@
+pub mod Classes
 pub mod Norm
 pub mod Rows
 pub mod Significand

@@ -1,13 +1,14 @@
 // The operands of fma unpacked: a nonzero number as a significand, a signed exponent and a sign; and the patterns that are set aside.
 ghost use mathlib.Core.Path.{_≡_};
-ghost use Prim.Native.Nat.{suc, _+_, _-_, _<_, _^_};
+ghost use Prim.Native.Nat.{suc, _+_, _<_, _^_};
 ghost use lib.Count.{leadingZeros};
 ghost use lib.Dec.{T};
 ghost use lib.IntN.{pos, negℤ};
 ghost use lib.Signed.{leZ};
-ghost use Rattle.ieee.specs.Format.{inf, low};
-ghost use Rattle.ieee.specs.Pattern.{magnitude, minus};
+ghost use Rattle.ieee.specs.Format.{low};
+ghost use Rattle.ieee.specs.Pattern.{minus};
 ghost use Rattle.fmt_fields.specs.Width.{format, Fits};
+ghost use Rattle.fmt_decode.specs.Classes.{Nonzero, Finite};
 ghost use Rattle.fmt_decode.specs.Norm.{normExpOf, aside};
 ghost use Rattle.fmt_decode.specs.Significand.{sigOf};
 use fmt_fields::exponent_field;
@@ -53,8 +54,11 @@ pub fn unbias(frac: u32, expo: u32) -> i32
 // A normal number has its leading bit above the fraction; a subnormal fraction is shifted left by its leading zeros. The exponent is at least
 // -(low + frac): -1126 at 64 bits, -172 at 32 bits.
 pub fn norm_of(frac: u32, expo: u32, x: u64) -> Norm
-    requires { ⌜ Fits frac expo × (0 < magnitude (format frac expo) x) × (magnitude (format frac expo) x < inf (format frac expo)) ⌝ }
-    ensures { λ r. ⌜ (r .sig ≡ sigOf (format frac expo) x) × (r .exp ≡ normExpOf (format frac expo) x) × (r .neg ≡ minus (format frac expo) x) × T (leZ (negℤ (pos (low (format frac expo) + frac))) (r .exp)) ⌝ }
+    requires { ⌜ Fits frac expo × Nonzero (format frac expo) x × Finite (format frac expo) x ⌝ }
+    ensures { λ r. ⌜ (r .sig ≡ sigOf (format frac expo) x)
+        × (r .exp ≡ normExpOf (format frac expo) x)
+        × (r .neg ≡ minus (format frac expo) x)
+        × T (leZ (negℤ (pos (low (format frac expo) + frac))) (r .exp)) ⌝ }
 {
     let at = exponent_field(frac, expo, x);
     let t = fraction_field(frac, expo, x);

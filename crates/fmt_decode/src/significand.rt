@@ -6,10 +6,10 @@ ghost use lib.Dec.{T};
 ghost use lib.IntN.{pos, negsuc, _+ℤ_, _-ℤ_};
 ghost use lib.Signed.{mag, leZ};
 ghost use Rattle.ieee.specs.Format.{units, inf};
-ghost use Rattle.ieee.specs.Pattern.{magnitude};
 ghost use Rattle.ieee.specs.Round.{exactly};
 ghost use Rattle.fmt_exponents.specs.Field.{above};
 ghost use Rattle.fmt_fields.specs.Width.{format, Fits};
+ghost use Rattle.fmt_decode.specs.Classes.{Nonzero, Finite};
 ghost use Rattle.fmt_decode.specs.Significand.{sigOf, expOf, unitsAt};
 use crate::pack::pack;
 use fmt_fields::exponent_field;
@@ -39,7 +39,7 @@ fn bring_up(frac: u32, t: u64) -> Significand
 
 // A normal number has its leading bit above the fraction, and its exponent is the field; a subnormal fraction is shifted up.
 pub fn significand_of(frac: u32, expo: u32, x: u64) -> Significand
-    requires { ⌜ Fits frac expo × (0 < magnitude (format frac expo) x) × (magnitude (format frac expo) x < inf (format frac expo)) ⌝ }
+    requires { ⌜ Fits frac expo × Nonzero (format frac expo) x × Finite (format frac expo) x ⌝ }
     ensures { λ r. ⌜ (r .sig ≡ sigOf (format frac expo) x) × (r .exp ≡ expOf (format frac expo) x) ⌝ }
 {
     let at = exponent_field(frac, expo, x);
@@ -67,7 +67,8 @@ pub fn exponent_lead(ex: i32, ey: i32) -> u32
 
 // The magnitude of a significand and an exponent. An exponent below 1 shifts bits out of the significand, which is then the magnitude itself.
 pub fn pack_significand(frac: u32, expo: u32, sig: u64, exp: i32) -> u64
-    requires { ⌜ Fits frac expo × (sig < 2 ^ (frac + 1)) × (mag exp < 2 ^ expo) × T (leZ (negsuc frac) exp) × (unitsAt sig exp < units (format frac expo) (inf (format frac expo))) ⌝ }
+    requires { ⌜ Fits frac expo × (sig < 2 ^ (frac + 1)) × (mag exp < 2 ^ expo) × T (leZ (negsuc frac) exp)
+        × (unitsAt sig exp < units (format frac expo) (inf (format frac expo))) ⌝ }
     ensures { λ r. ⌜ r ≡ exactly (format frac expo) (unitsAt sig exp) ⌝ }
 {
     if exp > 0 {

@@ -1,11 +1,11 @@
 // remquo: the remainder of x by the nearest whole multiple of y, and that multiple's number modulo 2^31.
 ghost use mathlib.Core.Path.{_≡_};
 ghost use mathlib.Core.Bool.{false};
-ghost use Prim.Native.Nat.{_<_};
-ghost use Rattle.ieee.specs.Format.{b64, inf};
-ghost use Rattle.ieee.specs.Pattern.{Pattern, magnitude};
+ghost use Rattle.ieee.specs.Format.{b64};
+ghost use Rattle.ieee.specs.Pattern.{Pattern};
 ghost use Rattle.ieee.specs.Remquo.{remquoOf, quotientOf};
 ghost use Rattle.fmt_fields.specs.Width.{format, Fits};
+ghost use Rattle.fmt_decode.specs.Classes.{Nonzero, Finite};
 ghost use Rattle.fmt_decode.specs.Rows.{noRemainder};
 use crate::answer::Remquo64;
 use crate::division::long_divide;
@@ -21,7 +21,9 @@ use fmt_fields::pattern::magnitude_of;
 // Two nonzero numbers. With an exponent two or more below y's, x is less than half of y and is its own remainder. With one below, x is less than y: the quotient
 // is 0 so far, and y's significand is doubled to the exponent of x. Otherwise the significands are divided, and the remainder has the exponent of y.
 fn remquo_numbers(frac: u32, expo: u32, x: u64, y: u64) -> Remquo
-    requires { ⌜ Fits frac expo × Pattern (format frac expo) x × (0 < magnitude (format frac expo) x) × (magnitude (format frac expo) x < inf (format frac expo)) × (0 < magnitude (format frac expo) y) × (magnitude (format frac expo) y < inf (format frac expo)) ⌝ }
+    requires { ⌜ Fits frac expo × Pattern (format frac expo) x
+        × Nonzero (format frac expo) x × Finite (format frac expo) x
+        × Nonzero (format frac expo) y × Finite (format frac expo) y ⌝ }
     ensures { λ r. ⌜ (r .value ≡ remquoOf (format frac expo) x y) × (r .quotient ≡ quotientOf (format frac expo) x y) ⌝ }
 {
     let a = significand_of(frac, expo, x);

@@ -42,8 +42,10 @@ pub fn settle(
     quo: u32,
     exp: i32,
 ) -> Remquo
-    requires { ⌜ Fits frac expo × (rem < div) × (div < 2 ^ (frac + 2)) × (mag exp < 2 ^ expo) × T (leZ (negsuc frac) exp) × (unitsAt (leftOver rem div quo) exp < units (format frac expo) (inf (format frac expo))) ⌝ }
-    ensures { λ r. ⌜ (r .value ≡ signed (format frac expo) (unlike neg (goesUp rem div quo)) (exactly (format frac expo) (unitsAt (leftOver rem div quo) exp))) × (r .quotient ≡ withSign differ (counted rem div quo % 2 ^ 31)) ⌝ }
+    requires { ⌜ Fits frac expo × (rem < div) × (div < 2 ^ (frac + 2)) × (mag exp < 2 ^ expo) × T (leZ (negsuc frac) exp)
+        × (unitsAt (leftOver rem div quo) exp < units (format frac expo) (inf (format frac expo))) ⌝ }
+    ensures { λ r. ⌜ (r .value ≡ signed (format frac expo) (unlike neg (goesUp rem div quo)) (exactly (format frac expo) (unitsAt (leftOver rem div quo) exp)))
+        × (r .quotient ≡ withSign differ (counted rem div quo % 2 ^ 31)) ⌝ }
 {
     let near = nearest_multiple(rem, div, quo);
     let rest = pack_significand(frac, expo, near.rest, exp);

@@ -50,7 +50,8 @@ pub fn overflow(frac: u32, expo: u32, x: u64) -> u64
 // Rounds a normal x after shifting its significand right by k bits.
 pub fn round_below_unit(frac: u32, expo: u32, x: u64, k: u32) -> u64
     requires { ⌜ Fits frac expo × (1 ≤ k) × (k ≤ 64) ⌝ }
-    ensures { λ r. ⌜ r ≡ signed (format frac expo) (minus (format frac expo) x) (chosen even (fullOf (format frac expo) x / 2 ^ k) (part (fullOf (format frac expo) x % 2 ^ k) (2 ^ k))) ⌝ }
+    ensures { λ r. ⌜ r ≡ signed (format frac expo) (minus (format frac expo) x)
+        (chosen even (fullOf (format frac expo) x / 2 ^ k) (part (fullOf (format frac expo) x % 2 ^ k) (2 ^ k))) ⌝ }
 {
     let c = shift_out(pow(frac) + fraction_field(frac, expo, x), k);
     choose_and_sign(frac, expo, is_negative(frac, expo, x), c.kept, c.location)

@@ -5,12 +5,13 @@ ghost use Prim.Native.Nat.{_+_, _-_, _*_, _/_, _%_, _≤_, _<_, _^_};
 ghost use lib.Dec.{T};
 ghost use lib.IntN.{pos, negℤ, _+ℤ_};
 ghost use lib.Signed.{leZ, mag};
-ghost use Rattle.ieee.specs.Format.{b64, b32, inf, low};
-ghost use Rattle.ieee.specs.Pattern.{field, magnitude};
+ghost use Rattle.ieee.specs.Format.{b64, b32, low};
+ghost use Rattle.ieee.specs.Pattern.{field};
 ghost use Rattle.ieee.specs.Round.{answer, ties-to-even};
 ghost use Rattle.ieee.specs.Scalbn.{scaled};
 ghost use Rattle.ieee.specs.Sqrt.{sqrtOf};
 ghost use Rattle.fmt_fields.specs.Width.{format, Fits};
+ghost use Rattle.fmt_decode.specs.Classes.{Nonzero, Finite};
 ghost use Rattle.sqrt_table.specs.Table.{Serves};
 ghost use Rattle.sqrt_number.specs.Split.{lift, halfOf, markedBy, wordOf, nearestOf, Above, Parts, Leads, Ready, Room, NearestRoot};
 use fmt_decode::norm::norm_of;
@@ -55,7 +56,7 @@ fn mark_inexact(root: u64, exact: bool) -> u64
 
 // Unpacks a positive number.
 fn split(frac: u32, expo: u32, x: u64) -> Lifted
-    requires { ⌜ Fits frac expo × (0 < magnitude (format frac expo) x) × (magnitude (format frac expo) x < inf (format frac expo)) ⌝ }
+    requires { ⌜ Fits frac expo × Nonzero (format frac expo) x × Finite (format frac expo) x ⌝ }
     ensures { λ r. ⌜ Parts (format frac expo) x (r .sig) (r .up) ⌝ }
 {
     let n = norm_of(frac, expo, x);
