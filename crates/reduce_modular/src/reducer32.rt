@@ -17,6 +17,7 @@ pub struct Step32 {
     pub quotient: u32,
 }
 
+// The contracts leave one state, `holds-only`, and one quotient, `stepped-only` (crates/reduce_laws/proofs/Only.antt).
 impl Reducer32 {
     // q has one bit more than a word. One division, R(R/2 - m) by m, gives its other bits, f = q - R, and r.
     pub fn new(x: u32, n: u32) -> Reducer32

@@ -24,6 +24,7 @@ pub struct Step64 {
     pub quotient: u64,
 }
 
+// The contracts leave one state, `holds-only`, and one quotient, `stepped-only` (crates/reduce_laws/proofs/Only.antt).
 impl Reducer64 {
     // q has one bit more than a word. One division, R(R/2 - m) by m, gives its other bits, f = q - R, and r.
     pub fn new(x: u64, n: u64) -> Reducer64

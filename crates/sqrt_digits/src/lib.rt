@@ -4,7 +4,7 @@ ghost use Prim.Native.Nat.{_+_, _*_, _≤_, _<_, _^_};
 ghost use lib.Dec.{eqb};
 ghost use Rattle.sqrt_digits.specs.Floor.{FloorRoot, pairs};
 
-// A root rounded down, and whether its square is the number.
+// A root rounded down, and whether its square is the number. A contract by `FloorRoot` leaves one root: `floor-unique` (proofs/Digits.antt).
 pub struct RootFloor {
     pub root: u64,
     pub exact: bool,

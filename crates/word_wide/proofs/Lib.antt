@@ -1,3 +1,4 @@
 mod Columns
+pub mod Only
 pub mod Pairs
 pub mod Shifts
