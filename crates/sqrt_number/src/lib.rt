@@ -134,12 +134,8 @@ pub fn sqrt_by_digits(frac: u32, expo: u32, x: u64) -> u64
     )
 }
 
-<<<<<<< HEAD
 // The root of a significand with a lifted exponent, by the table. A body for each width, so that the compiler can lay it out for that width.
-=======
-// The root of a significand at a lifted exponent, by the table, at 64 bits and at 32. Each width has one body, so that the compiler lays it out for that width.
 // The contract leaves one answer: `nearest-unique` (proofs/Only.antt).
->>>>>>> What two words' value and the nearest root leave is one answer, and relations cite that
 fn by_table64(sig: u64, up: u32) -> u64
     requires { ⌜ Ready b64 sig up ⌝ }
     ensures { λ r. ⌜ NearestRoot 52 sig up r ⌝ }

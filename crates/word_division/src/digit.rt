@@ -23,12 +23,8 @@ pub fn normal_shift(d: u64) -> u32
     u64::leading_zeros(d)
 }
 
-<<<<<<< HEAD
 // Subtracts one where the digit is too large for d and the next digit l. Where rest is a digit or more, the estimate is right.
-=======
-// One less where the digit is too large for d and the next digit l, and the same where it is right. Where rest has passed a digit, it is right.
 // One answer: `estimate-unique`.
->>>>>>> Each contract of division leaves one answer
 pub fn adjust_estimate(e: Estimate, l: u64, d: u64) -> Estimate
     requires { ⌜ (2 ^ 63 ≤ d) × (l < 2 ^ 32) × (divided e d < d) × ((divided e d * 2 ^ 32 + l) / d ≤ e .digit) ⌝ }
     ensures { λ r. ⌜ (r .digit ≡ max ((divided e d * 2 ^ 32 + l) / d) (e .digit - 1)) × (divided r d ≡ divided e d) ⌝ }
