@@ -15,7 +15,7 @@ pub struct Estimate {
     pub rest: u64,
 }
 
-// How far to shift a divisor left to set its top bit.
+// How far to shift a divisor left to set its top bit. The contract leaves one answer: `shift-unique` (proofs/Only.antt).
 pub fn normal_shift(d: u64) -> u32
     requires { ⌜ 0 < d ⌝ }
     ensures { λ r. ⌜ (r < 64) × (2 ^ 63 ≤ d * 2 ^ r) × (d * 2 ^ r < 2 ^ 64) ⌝ }
@@ -44,7 +44,7 @@ pub fn adjust_estimate(e: Estimate, l: u64, d: u64) -> Estimate
 }
 
 // One digit of a quotient: h * 2^32 + l by d, which has its top bit set. The upper half of d alone gives a digit that is at most two too large.
-// The remainder is below d, so wrapping arithmetic on one word gives it.
+// The remainder is below d, so wrapping arithmetic on one word gives it. One answer: `division-unique`.
 pub fn quotient_digit(h: u64, l: u64, d: u64) -> Divided
     requires { ⌜ (2 ^ 63 ≤ d) × (l < 2 ^ 32) × (h < d) ⌝ }
     ensures { λ r. ⌜ (r .quotient * d + r .remainder ≡ h * 2 ^ 32 + l) × (r .remainder < d) ⌝ }

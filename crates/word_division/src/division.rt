@@ -10,6 +10,7 @@ use word_wide::shift::shl;
 
 // a by d, where the quotient is one word. A one-word a takes the machine's division. Otherwise both are shifted left until d has its top bit set,
 // which leaves the quotient unchanged, and the remainder is shifted back.
+// One answer: `division-unique` (proofs/Only.antt).
 pub fn div(a: Wide, d: u64) -> Divided
     requires { ⌜ a .hi < d ⌝ }
     ensures { λ r. ⌜ (r .quotient * d + r .remainder ≡ value a) × (r .remainder < d) ⌝ }
