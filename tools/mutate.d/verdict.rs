@@ -13,21 +13,24 @@ pub enum Outcome {
 }
 
 // What the prover says of something that must hold and is not met.
-const FACT: [&str; 5] = [
+const FACT: [&str; 7] = [
     "the goal does not follow from what it read",
     "`search`: no proof of",
     "the two types ",
+    "the two values ",
+    "give a proof of that as the last argument, `simp L t`",
     "expected type `",
     "it is not proved that ",
 ];
 
 // What it says where a proof does not have the shape of the code: it names a step or a way to it that is not there, or takes the steps in another order.
 // A phrase that stands in neither table counts as one of these.
-const FORM: [&str; 5] = [
+const FORM: [&str; 6] = [
     "that can be named from here",
     "` has no field `",
     "this pattern needs a function",
     "no occurrence of the path's left endpoint",
+    "no equation of the list has an instance",
     "expected type `tie.Need-",
 ];
 
