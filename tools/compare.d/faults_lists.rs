@@ -1,5 +1,5 @@
 //! Faults of a list call, each a call of its own that goes wrong in one way: a run must find every one of them. The call
-//! that they are made from answers by the crate's functions, and the run finds nothing in it.
+//! that they are made from answers by libm's functions, and the run finds nothing in it.
 
 use crate::format::WIDTH_64;
 use crate::list_shapes::Shape;
@@ -214,7 +214,7 @@ fn nothing_is_found_in_the_right_call() {
 }
 #[test]
 fn a_spoiled_call_is_seen() {
-    // Of ten, some have no place in the output, and in some the crate has no say.
+    // Of ten, some have no place in the output, and in some libm has no say.
     assert_eq!(found(right, Spoiled::Number), 10);
     assert!((8..=10).contains(&found(right, Spoiled::Ours)));
     assert!((2..=8).contains(&found(right, Spoiled::Crate)));

@@ -53,7 +53,7 @@ fn gives(answer: &mut Answer, strikes: bool, word: u64) {
     answer.word = if strikes { word } else { answer.word };
 }
 
-/// A run in which ours gives the exact answers, changed by `ours`, and the crate its own, changed by `crates`.
+/// A run in which ours gives the exact answers, changed by `ours`, and libm its own, changed by `crates`.
 fn run(row: &Row, ours: Spoil, crates: Spoil) -> Tally {
     let run = Run { seed: 1, on: String::new(), build: String::new(), spoiled: Spoiled::Nothing };
     let operation = operation_of(row);

@@ -1,4 +1,4 @@
-//! The differences from the crate that are known: which operands, and the entry of docs/DIFFERENCES.md that explains them.
+//! The differences from libm that are known: which operands, and the entry of docs/DIFFERENCES.md that explains them.
 
 use crate::format::Format;
 use crate::halves::is_power_below_one;

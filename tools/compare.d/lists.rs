@@ -1,4 +1,4 @@
-//! The list call beside the crate: each place of the output against the crate's function of the same place of the input,
+//! The list call beside libm: each place of the output against libm's function of the same place of the input,
 //! and a test of the run's own for what is refused. All that a call could touch is looked at: both lists, and the words
 //! beside them.
 
@@ -170,7 +170,7 @@ fn try_call(
     }
 }
 
-/// In the middle of the output, if it has a place. Where a call is refused the crate has no say.
+/// In the middle of the output, if it has a place. Where a call is refused libm has no say.
 fn spoil(
     spoiled: Spoiled,
     is_done: bool,
@@ -212,14 +212,14 @@ fn difference(
             let from = before[at - memory.output.start + memory.input.start];
             let exact = Answer::exact(operation_of(row), &Request::word(from)).word;
             format!(
-                "{name}, from {from:016x}, is {is:016x}; the crate gives {must:016x}; exact: {exact:016x}"
+                "{name}, from {from:016x}, is {is:016x}; libm gives {must:016x}; exact: {exact:016x}"
             )
         }
         None => format!("{name} was {was:016x} and is {is:016x}"),
     })
 }
 
-/// `count` different requests of the plain program, whose lists are short, with what the crate and the rule make of them.
+/// `count` different requests of the plain program, whose lists are short, with what libm and the rule make of them.
 pub fn print_lines(seed: u64, count: u64) {
     let mut requests = Requests::new(operation(), seed);
     let mut seen = HashSet::new();

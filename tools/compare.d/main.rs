@@ -1,4 +1,4 @@
-//! Runs our operations and the crate's on the same operands, in one process, and reports every difference.
+//! Runs our operations and libm's on the same operands, in one process, and reports every difference.
 //!
 //! Started by tools/compare, which checks the options that a person gives. The emulator that runs x86-64 programs on Arm
 //! does not bear Rust's own start, so there is no Rust `main`.

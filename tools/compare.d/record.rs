@@ -1,4 +1,4 @@
-//! What a run leaves behind: lines with the crate's answers, and a record of each operation's run for the tables at the end.
+//! What a run leaves behind: lines with libm's answers, and a record of each operation's run for the tables at the end.
 
 use crate::kinds::{kind_of, known_of};
 use crate::lines::{write_fields, write_request};
@@ -10,7 +10,7 @@ use crate::tally::Tally;
 use std::collections::{BTreeMap, HashSet};
 use std::io::Write;
 
-/// `count` different requests with the crate's answers, or the plain program's where that judges. Where any two NaNs are
+/// `count` different requests with libm's answers, or the plain program's where that judges. Where any two NaNs are
 /// equal the canonical one is written, and operands of the known differences are left out where it judges, so that
 /// what is written is what ours must answer.
 pub fn print_lines(row: &Row, seed: u64, count: u64) {

@@ -1,4 +1,4 @@
-//! The reduction beside the crate: which requests are refused, by a test of its own, and the kinds of its operands.
+//! The reduction beside libm: which requests are refused, by a test of its own, and the kinds of its operands.
 
 use crate::format::Format;
 use crate::quick::{Draw, draw};
@@ -18,7 +18,7 @@ fn refusal(width: u32, request: &Request) -> u32 {
     }
 }
 
-/// The crate asserts what we refuse, so it is called where nothing is to be refused; elsewhere the rule answers.
+/// libm asserts what we refuse, so it is called where nothing is to be refused; elsewhere the rule answers.
 pub fn by_the_crate(width: u32, request: &Request, call: impl Fn() -> u64) -> Answer {
     match refusal(width, request) {
         0 => Answer::refusal(0, call()),

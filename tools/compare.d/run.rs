@@ -201,7 +201,7 @@ pub fn same(nans: Nans, operation: &Operation, ours: &Answer, crates: &Answer) -
     word_same && number_same
 }
 
-/// The later text of the crate has other statuses, so they count only where the given text decides them.
+/// The later text of libm has other statuses, so they count only where the given text decides them.
 pub fn leaves_status_out(operation: &Operation) -> bool {
     !oracle::api::STATUSES && operation.answer_kinds().contains(&Kind::Status)
 }

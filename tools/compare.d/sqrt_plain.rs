@@ -1,4 +1,4 @@
-//! The other side in a run of the two routes of the root: our plain root's value, and the crate's status.
+//! The other side in a run of the two routes of the root: our plain root's value, and libm's status.
 
 use oracle::api;
 

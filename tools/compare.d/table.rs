@@ -1,4 +1,4 @@
-//! The operations that are run: one row says how ours is called, how the crate's is, and what counts as the same answer.
+//! The operations that are run: one row says how ours is called, how libm's is, and what counts as the same answer.
 //!
 //! The kinds of the operands and of the answer, a status among them or not, are those of docs/LINES.md, found by the name.
 //! A new operation is a new row here, its functions of the archive among those below, and a way to draw its operands.
@@ -29,7 +29,7 @@ pub enum Nans {
 }
 
 impl Nans {
-    /// The word that ours must be where the crate answers this one.
+    /// The word that ours must be where libm answers this one.
     pub fn ours(self, format: Format, crates: u64) -> u64 {
         match self == Nans::Equal && format.is_nan(crates) {
             true => format.canonical_nan(),
@@ -47,15 +47,15 @@ impl Nans {
 }
 
 /// Whose the other side is; in a run of the two routes of the root both are ours, so that NaNs too must be alike.
-pub const OTHER: &str = if cfg!(sqrt_plain) { "the plain root" } else { "the crate" };
+pub const OTHER: &str = if cfg!(sqrt_plain) { "the plain root" } else { "libm" };
 const OF_ROOTS: Nans = if cfg!(sqrt_plain) { Nans::BitForBit } else { Nans::Equal };
 
 /// Whose answers are taken for right.
 #[derive(Clone, Copy, Debug, PartialEq, Eq)]
 pub enum Judge {
-    /// The crate's, but for the differences that are known.
+    /// libm's, but for the differences that are known.
     Crate,
-    /// The plain program's, as the crate's own file is not given. What is named here runs beside, and is judged too.
+    /// The plain program's, as libm's own file is not given. What is named here runs beside, and is judged too.
     Plain(&'static str),
 }
 

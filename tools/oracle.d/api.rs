@@ -1,4 +1,4 @@
-//! The crate's operations on bit patterns, each under its own name so that a disassembly shows it.
+//! libm's operations on bit patterns, each under its own name so that a disassembly shows it.
 
 use crate::math::generic;
 use crate::math::support::{Round, Status, linear_mul_reduction};
@@ -59,7 +59,7 @@ pub fn remquo64(x: u64, y: u64) -> (u64, i32) {
     let (rest, quotient) = crate::math::remquo(f64::from_bits(x), f64::from_bits(y));
     (rest.to_bits(), quotient)
 }
-/// Panics where the crate's does: y above a quarter of the word's range, or x not below twice y.
+/// Panics where libm's does: y above a quarter of the word's range, or x not below twice y.
 #[inline(never)]
 pub fn reduce64(x: u64, shift: u32, y: u64) -> u64 {
     linear_mul_reduction(x, shift, y)

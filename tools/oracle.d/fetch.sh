@@ -36,7 +36,7 @@ download() { # URL FILE
     fi
 }
 
-unpack() { # PACKAGE FOLDER USE: of the text only the crate's own tree, of the vectors the archive that holds them, of SoftFloat its files
+unpack() { # PACKAGE FOLDER USE: of the text only libm's own tree, of the vectors the archive that holds them, of SoftFloat its files
     case $3 in text) only=./$libm ;; vectors) only=./$glibc ;; softfloat) only="./$runtime/softfloat ./$runtime/softfloat.c ./$runtime/softfloat.h" ;; *) only= ;; esac
     if command -v dpkg-deb >/dev/null 2>&1; then
         dpkg-deb --fsys-tarfile "$1"

@@ -1,6 +1,6 @@
-//! The root of the oracle: declares the crate's files where they stand, and nothing of their text.
+//! The root of the oracle: declares libm's files where they stand, and nothing of their text.
 //!
-//! tools/oracle lays this file, api.rs and the crate's files out as one tree. None of the settings that would let the
+//! tools/oracle lays this file, api.rs and libm's files out as one tree. None of the settings that would let the
 //! crate use a processor's instruction or the compiler's own functions is made, so its software routines are what runs.
 #![no_std]
 #![allow(dead_code, unused_imports, unused_macros, unexpected_cfgs, unstable_name_collisions)]
@@ -60,5 +60,5 @@ pub mod math {
         generic::fma_wide_round(x, y, z, support::Round::Nearest).val
     }
 }
-// The crate's files say `crate::support`.
+// libm's files say `crate::support`.
 pub use math::*;

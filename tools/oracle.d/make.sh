@@ -1,6 +1,6 @@
 # The oracle's tree, the archive, and programs built with both. Sourced by tools/oracle.
 
-# The crate's files that the seven operations need.
+# libm's files that the seven operations need.
 files='generic/copysign generic/fabs generic/floor generic/fma generic/fma_wide generic/fmod generic/scalbn generic/sqrt
 generic/trunc remquo support/big support/env support/float_traits support/int_traits support/int_traits/narrowing_div
 support/macros support/modular'
@@ -132,7 +132,7 @@ build_oracle() { # sets oracle, the folder with liboracle.rlib and its assembly 
     [ ! -f "$oracle/liboracle.rlib" ] || return 0
     part=$oracle.$$
     mkdir -p "$part"
-    # $flags is words. The crate's own text may warn; a build of ours may not.
+    # $flags is words. libm's own text may warn; a build of ours may not.
     compile $flags --cap-lints allow --crate-name oracle --crate-type rlib --emit "link=$part/liboracle.rlib,asm=$part/oracle.s" "$tree/lib.rs" ||
         fail 2 "the oracle could not be built"
     if [ -d "$oracle" ]; then rm -rf "$part"; else mv "$part" "$oracle"; fi
