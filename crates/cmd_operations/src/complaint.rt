@@ -49,14 +49,14 @@ pub fn with_expected(l: Line, kind: u8) -> Line {
 }
 
 // One text for 1, another for more.
-fn counted(n: u64, one: u8, more: u8) -> u8 {
+fn singular_or_plural(n: u64, one: u8, more: u8) -> u8 {
     if n == 1 { one } else { more }
 }
 
 // The fault of a field of `size` characters.
 pub fn with_fault(l: Line, fault: u8, size: u64) -> Line {
     if fault == Text::Has as u8 {
-        let characters = counted(size, Text::Character as u8, Text::Characters as u8);
+        let characters = singular_or_plural(size, Text::Character as u8, Text::Characters as u8);
         return with_count(l, fault, size, characters);
     }
     with_text(l, fault)
@@ -66,7 +66,7 @@ fn with_operand(l: Line, c: Complaint) -> Line {
     let m = with_count(l, Text::Operand as u8, c.index, Text::Blank as u8);
     if c.what == Text::TooMany as u8 {
         let count = std::num::wrapping_sub_u64(c.index, 1);
-        let operands = counted(count, Text::OneOperand as u8, Text::Operands as u8);
+        let operands = singular_or_plural(count, Text::OneOperand as u8, Text::Operands as u8);
         return with_count(m, c.what, count, operands);
     }
     with_expected(with_fault(m, c.fault, c.size), c.kind)

@@ -1,6 +1,6 @@
 // A line to be written, as a value: its pieces, which one loop writes.
 use crate::table::Row;
-use crate::table::given;
+use crate::table::answer_kind;
 use crate::table::write_names;
 use crate::text::Text;
 use crate::text::write_text;
@@ -100,9 +100,9 @@ fn with_answer(l: Line, kind: u8, value: u64) -> Line {
 pub fn with_answers(mut l: Line, row: Row, a: Answers) -> Line {
     l.n = a.n;
     let arrow = with_text(l, Text::Arrow as u8);
-    let one = with_answer(arrow, given(row, 0), a.x);
-    let two = with_answer(one, given(row, 1), a.y);
-    with_answer(two, given(row, 2), a.z)
+    let one = with_answer(arrow, answer_kind(row, 0), a.x);
+    let two = with_answer(one, answer_kind(row, 1), a.y);
+    with_answer(two, answer_kind(row, 2), a.z)
 }
 
 fn write_piece(out: &mut [u8], at: usize, code: u8, value: u64, n: i32) -> usize {

@@ -9,8 +9,8 @@ use crate::complaint::complaint_of;
 use crate::table::Row;
 use crate::table::attribute_of;
 use crate::table::is_named;
+use crate::table::operand_kind;
 use crate::table::row_of;
-use crate::table::taken;
 use crate::text::Text;
 use text_lines::Fault;
 use text_lines::Field;
@@ -45,7 +45,7 @@ struct Taken {
     fault: u8,
 }
 
-fn valued(value: u64, n: i32) -> Taken {
+fn with_value(value: u64, n: i32) -> Taken {
     Taken {
         value: value,
         n: n,
@@ -53,7 +53,7 @@ fn valued(value: u64, n: i32) -> Taken {
     }
 }
 
-fn not_taken(fault: Fault) -> Taken {
+fn with_fault(fault: Fault) -> Taken {
     let text = match fault {
         Fault::WrongLength => Text::Has as u8,
         Fault::WrongDigit => Text::WrongDigit as u8,
@@ -69,40 +69,40 @@ fn not_taken(fault: Fault) -> Taken {
     }
 }
 
-fn of_field(f: Field) -> Taken {
+fn from_field(f: Field) -> Taken {
     match f {
-        Field::Value(v) => valued(v, 0),
-        Field::Not(e) => not_taken(e),
+        Field::Value(v) => with_value(v, 0),
+        Field::Not(e) => with_fault(e),
     }
 }
 
-fn of_signed(f: Signed) -> Taken {
+fn from_signed(f: Signed) -> Taken {
     match f {
-        Signed::Integer(m) => valued(0, m),
-        Signed::NoInteger(e) => not_taken(e),
+        Signed::Integer(m) => with_value(0, m),
+        Signed::NoInteger(e) => with_fault(e),
     }
 }
 
 fn read_attribute(f: &[u8]) -> Taken {
     let number = attribute_of(f);
     if number < 5 {
-        return valued(number as u64, 0);
+        return with_value(number as u64, 0);
     }
-    of_field(read_unsigned(f))
+    from_field(read_unsigned(f))
 }
 
 // A text may be anything; its length is its value.
 fn read_field(f: &[u8], kind: u8) -> Taken {
     match kind {
-        b'W' => of_field(read_word(f, 16)),
-        b'w' => of_field(read_word(f, 8)),
-        b'N' => of_signed(read_signed(f)),
-        b'U' => of_field(read_unsigned(f)),
-        _ => valued(f.len() as u64, 0),
+        b'W' => from_field(read_word(f, 16)),
+        b'w' => from_field(read_word(f, 8)),
+        b'N' => from_signed(read_signed(f)),
+        b'U' => from_field(read_unsigned(f)),
+        _ => with_value(f.len() as u64, 0),
     }
 }
 
-fn start(row: Row, what: u8) -> Request
+fn new_request(row: Row, what: u8) -> Request
     ensures { λ q. ⌜ q .row ≡ row ⌝ }
 {
     Request {
@@ -173,7 +173,7 @@ fn read_operands(s: &[u8], first: Request, from: usize) -> Request
     let mut at = from;
     let mut index = 0;
     while index < 4 {
-        let kind = taken(r.row, index);
+        let kind = operand_kind(r.row, index);
         if at >= s.len() {
             if kind == b'-' {
                 return r;
@@ -235,7 +235,7 @@ fn flaw_of(s: &[u8], row: Row) -> u8 {
 
 // The end of the fields: a text is not a field, and runs to the end.
 fn fields_end(s: &[u8], row: Row, end: usize) -> usize {
-    if taken(row, 0) == b'T' {
+    if operand_kind(row, 0) == b'T' {
         return end;
     }
     s.len()
@@ -250,7 +250,7 @@ pub fn read_request(s: &[u8]) -> Request
     let from = name_end(dot, end);
     let row = row_of(part(s, 0, from));
     let flaw = flaw_of(part(s, 0, fields_end(s, row, end)), row);
-    let mut r = start(row, flaw);
+    let mut r = new_request(row, flaw);
     if flaw != FINE {
         return r;
     }

@@ -95,7 +95,7 @@ pub fn is_named(row: Row) -> bool {
 }
 
 // The kind of the operand at an index, from 0 on.
-pub fn taken(row: Row, index: usize) -> u8 {
+pub fn operand_kind(row: Row, index: usize) -> u8 {
     if index < 3 {
         return kind_at(std::num::wrapping_add_usize(row.kinds, index));
     }
@@ -103,7 +103,7 @@ pub fn taken(row: Row, index: usize) -> u8 {
 }
 
 // The kind of the answer at an index, from 0 on.
-pub fn given(row: Row, index: usize) -> u8 {
+pub fn answer_kind(row: Row, index: usize) -> u8 {
     if index < 3 {
         return kind_at(std::num::wrapping_add_usize(
             row.kinds,

@@ -30,7 +30,7 @@ pub enum Asked {
     Nothing,
 }
 
-pub fn opened() -> Streams {
+pub fn open_streams() -> Streams {
     Streams {
         used: 0,
         is_open: true,
@@ -38,7 +38,7 @@ pub fn opened() -> Streams {
     }
 }
 
-pub fn broken(mut s: Streams) -> Streams {
+pub fn with_failure(mut s: Streams) -> Streams {
     s.is_open = false;
     s.is_broken = true;
     s
@@ -56,7 +56,7 @@ pub fn flush(mut s: Streams, out: &[u8; 65536]) -> Streams {
         return s;
     }
     io::write_all(STDERR_FILENO, b"pk: cannot write standard output\n");
-    broken(s)
+    with_failure(s)
 }
 
 // Makes room for `more` bytes of output.
@@ -71,7 +71,7 @@ pub fn reserve(s: Streams, out: &[u8; 65536], more: usize) -> Streams {
 }
 
 // Reads once, unless the input has ended or anything failed.
-pub fn take(mut s: Streams, input: &mut [u8; 65536]) -> Taken {
+pub fn read_once(mut s: Streams, input: &mut [u8; 65536]) -> Taken {
     if !s.is_open {
         return Taken {
             streams: s,
@@ -82,7 +82,7 @@ pub fn take(mut s: Streams, input: &mut [u8; 65536]) -> Taken {
     if got < 0 {
         io::write_all(STDERR_FILENO, b"pk: cannot read standard input\n");
         return Taken {
-            streams: broken(s),
+            streams: with_failure(s),
             count: 0,
         };
     }

@@ -12,7 +12,7 @@ use Rattle.ieee.specs.Pattern.{signed, withSign}
 use Rattle.ieee.specs.Exact.{dyadic, ratio}
 use Rattle.ieee.specs.Round.{Attribute, wayOf, rounded, answer}
 use Rattle.ieee.specs.Scalbn.{scaled}
-use Rattle.ieee.proofs.Alike.{Beside, Places, same-side}
+use Rattle.ieee.proofs.Alike.{Beside, threshold, same-side}
 use Rattle.ieee.proofs.Exacts.{answer-of, sign-given}
 use Rattle.round_laws.proofs.Stretched.{same-ratio, ratio-stretched}
 use Rattle.round_step.proofs.Scaled.{answer-scaled}
@@ -22,7 +22,7 @@ pub finer-answer : (f : Format) (g : Attribute) (z t : Bool) (v b c : ℕ) → 0
     → answer f g z (dyadic (withSign t v) b) ≡ answer f g z (dyadic (withSign t (v * 2 ^ c)) (b + c))
 finer-answer f g z t v b c p =
     answer-of f g z t v b (sign-given z t v b p)
-    ∙ ap (signed f t) (same-side f (wayOf g t) (ratio v (2 ^ b)) (ratio (v * 2 ^ c) (2 ^ (b + c))) (λ j l. beside (Places f (wayOf g t) j)))
+    ∙ ap (signed f t) (same-side f (wayOf g t) (ratio v (2 ^ b)) (ratio (v * 2 ^ c) (2 ^ (b + c))) (λ j l. beside (threshold f (wayOf g t) j)))
     ∙ sym (answer-of f g z t (v * 2 ^ c) (b + c) (sign-given z t (v * 2 ^ c) (b + c) (omega (arith, times-le (2 ^ c) p, pow-pos c))))
   where
     level : v * 2 ^ (b + c) ≡ v * 2 ^ c * 2 ^ b

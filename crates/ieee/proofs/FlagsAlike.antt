@@ -11,7 +11,7 @@ use Rattle.ieee.specs.Flags.{largest, judged, raisedBy}
 use Rattle.ieee.proofs.Units.{units-zero}
 use Rattle.ieee.proofs.Decide.{alike}
 use Rattle.ieee.proofs.Sides.{Sound}
-use Rattle.ieee.proofs.Alike.{Beside, Places, same-side}
+use Rattle.ieee.proofs.Alike.{Beside, threshold, same-side}
 use Rattle.ieee.proofs.Wider.{magnified-beside, Reaches}
 use Rattle.ieee.proofs.Verdicts.{three, suc-largest, beforeTwice, before-units, twice-units, normal-units, subnormal-units, after-subnormal, overflows-reads, tiny-reads}
 use Rattle.ieee.proofs.Raised.{Same, differs-reads}
@@ -48,14 +48,14 @@ module _ (f : Format) (g : Fair f) (w : Way) (x y : Exact) (s : Sound x) (t : So
   abbrev h : ℕ
   h = 2 ^ f .frac
 
-  place : (w : Way) (j : ℕ) → j < inf f → Beside x y (Places f w j)
-  place even j k = l .at-middle j k
-  place away j k = l .at-middle j k
-  place shorter j k = l .at-number (suc j) k
-  place longer j k = l .at-number j (omega arith)
+  beside-threshold : (w : Way) (j : ℕ) → j < inf f → Beside x y (threshold f w j)
+  beside-threshold even j k = l .at-middle j k
+  beside-threshold away j k = l .at-middle j k
+  beside-threshold shorter j k = l .at-number (suc j) k
+  beside-threshold longer j k = l .at-number j (omega arith)
 
   same-rounding : rounded f w x ≡ rounded f w y
-  same-rounding = same-side f w x y (place w)
+  same-rounding = same-side f w x y (beside-threshold w)
 
   top-alike : Reaches f w x (largest f) ↔ Reaches f w y (largest f)
   top-alike =

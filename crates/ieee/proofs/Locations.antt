@@ -206,9 +206,9 @@ module _ (f : Format) (g : Fair f) (w : Way) (x : Exact) (s : Sound x) (m p : �
   differs-here = reads-as (λ n e. n (same-here (rounded f w x) e), λ n u. n (here-same u)) (t .one)
 
   -- ---- the law: the flags by the lower neighbour and the location
-  pub flags-by-cut : raisedBy f w x ≡ flagsAt f w m p
+  pub flags-by-location : raisedBy f w x ≡ flagsAt f w m p
   unfolding raisedBy
-  flags-by-cut =
+  flags-by-location =
       let o = alike (overflows-reads f g 1 (omega arith) w x s) over-here (λ r. r, λ r. r) in
       let i = alike (differs-reads f w x) differs-here (λ r. r, λ r. r) in
       let u = alike (and-reads (tiny-reads f g 1 (omega arith) w x s) (differs-reads f w x)) (and-reads tiny-here (t .one)) (

@@ -15,29 +15,29 @@ use Rattle.ieee.specs.Rule.{to-even, Once, RuleIn}
 use Rattle.ieee.specs.Scalbn.{scaled, reach, clamp, scalbnBy, scalbnIn, scalbnOf, exactScalbn}
 use Rattle.ieee.specs.ScalbnRows.{ScalbnRows}
 use Rattle.ieee.proofs.Units.{units-mono, units-lt, units-inf}
-use Rattle.ieee.proofs.Alike.{Beside, Places, same-side}
+use Rattle.ieee.proofs.Alike.{Beside, threshold, same-side}
 use Rattle.ieee.proofs.Patterns.{finite-is, zero-is, value-finite}
 use Rattle.ieee.proofs.Signs.{signed-times, signed-zero}
 use Rattle.ieee.proofs.Exacts.{answer-zero, sign-own, answer-of}
 use Rattle.ieee.proofs.Attributes.{answer-met}
 
 -- ---- far enough, up or down, all values round alike
-places-le : (f : Format) (w : Way) (j : ℕ) → j < inf f → Places f w j ≤ 2 * units f (inf f)
-places-le f even j l = omega (arith, units-mono f l, units-mono f {i = j} {j = inf f} (omega arith))
-places-le f away j l = omega (arith, units-mono f l, units-mono f {i = j} {j = inf f} (omega arith))
-places-le f shorter j l = omega (arith, units-mono f l)
-places-le f longer j l = omega (arith, units-mono f {i = j} {j = inf f} (omega arith))
+threshold-le : (f : Format) (w : Way) (j : ℕ) → j < inf f → threshold f w j ≤ 2 * units f (inf f)
+threshold-le f even j l = omega (arith, units-mono f l, units-mono f {i = j} {j = inf f} (omega arith))
+threshold-le f away j l = omega (arith, units-mono f l, units-mono f {i = j} {j = inf f} (omega arith))
+threshold-le f shorter j l = omega (arith, units-mono f l)
+threshold-le f longer j l = omega (arith, units-mono f {i = j} {j = inf f} (omega arith))
 
 pub huge-alike : (f : Format) (w : Way) (n k : ℕ) → units f (inf f) < n → units f (inf f) < k → rounded f w (ratio n 1) ≡ rounded f w (ratio k 1)
 huge-alike f w n k p q = same-side f w (ratio n 1) (ratio k 1) beside
   where
-    beside : (j : ℕ) → j < inf f → Beside (ratio n 1) (ratio k 1) (Places f w j)
+    beside : (j : ℕ) → j < inf f → Beside (ratio n 1) (ratio k 1) (threshold f w j)
     beside j l =
-        let h = places-le f w j l in
+        let h = threshold-le f w j l in
         record { above = (λ o. omega arith, λ o. omega arith); below = (λ u. absurd (omega arith), λ u. absurd (omega arith)) }
 
 pub tiny-alike : (f : Format) (w : Way) (n d e : ℕ) → 2 * n < d → 2 * n < e → rounded f w (ratio n d) ≡ rounded f w (ratio n e)
-tiny-alike f w n d e p q = same-side f w (ratio n d) (ratio n e) (λ j l. beside (Places f w j))
+tiny-alike f w n d e p q = same-side f w (ratio n d) (ratio n e) (λ j l. beside (threshold f w j))
   where
     over : (s a b : ℕ) → 2 * n < a → s * a ≤ 2 * n → s * b ≤ 2 * n
     over zero a b p o = omega arith

@@ -27,11 +27,11 @@ pub fn answer_of(number: usize, a: Operands) -> Answers
         12 => status32(paskerotim::sqrt32_status(x)),
         13 => word64(paskerotim::fma64(a.x, a.y, a.z)),
         14 => word32(paskerotim::fma32(x, y, z)),
-        _ => two(0, 0),
+        _ => two_answers(0, 0),
     }
 }
 
-fn two(x: u64, y: u64) -> Answers
+fn two_answers(x: u64, y: u64) -> Answers
     ensures { λ r. ⌜ r ≡ two x y ⌝ }
 {
     Answers {
@@ -45,25 +45,25 @@ fn two(x: u64, y: u64) -> Answers
 fn word64(x: u64) -> Answers
     ensures { λ r. ⌜ r ≡ one x ⌝ }
 {
-    two(x, 0)
+    two_answers(x, 0)
 }
 
 fn word32(x: u32) -> Answers
     ensures { λ r. ⌜ r ≡ one x ⌝ }
 {
-    two(x as u64, 0)
+    two_answers(x as u64, 0)
 }
 
 fn status64(r: paskerotim::FpResult64) -> Answers
     ensures { λ a. ⌜ a ≡ two (r .val) (r .status) ⌝ }
 {
-    two(r.val, r.status as u64)
+    two_answers(r.val, r.status as u64)
 }
 
 fn status32(r: paskerotim::FpResult32) -> Answers
     ensures { λ a. ⌜ a ≡ two (r .val) (r .status) ⌝ }
 {
-    two(r.val as u64, r.status as u64)
+    two_answers(r.val as u64, r.status as u64)
 }
 
 fn quotient64(r: paskerotim::Remquo64) -> Answers
@@ -80,11 +80,11 @@ fn quotient64(r: paskerotim::Remquo64) -> Answers
 fn refusal64(r: paskerotim::Reduced64) -> Answers
     ensures { λ a. ⌜ a ≡ two (r .refusal) (r .value) ⌝ }
 {
-    two(r.refusal as u64, r.value)
+    two_answers(r.refusal as u64, r.value)
 }
 
 fn refusal32(r: paskerotim::Reduced32) -> Answers
     ensures { λ a. ⌜ a ≡ two (r .refusal) (r .value) ⌝ }
 {
-    two(r.refusal as u64, r.value as u64)
+    two_answers(r.refusal as u64, r.value as u64)
 }

@@ -19,13 +19,13 @@ struct State {
     streams: Streams,
 }
 
-fn start() -> State {
+fn new_state() -> State {
     State {
         kept: text_lines::nothing_kept(),
         is_comment: false,
         ended: 0,
         bad: 0,
-        streams: cmd_streams::opened(),
+        streams: cmd_streams::open_streams(),
     }
 }
 
@@ -110,14 +110,14 @@ fn take_lines(s: State, line: &mut [u8; 128], out: &mut [u8; 65536], bytes: &[u8
 }
 
 // Reads once, and answers the lines that are complete.
-fn turn(
+fn answer_read(
     mut s: State,
     line: &mut [u8; 128],
     out: &mut [u8; 65536],
     input: &mut [u8; 65536],
 ) -> State {
     let streams = s.streams;
-    let taken = cmd_streams::take(streams, input);
+    let taken = cmd_streams::read_once(streams, input);
     let next = taken.streams;
     s.streams = next;
     let mut t = take_lines(s, line, out, text_lines::part(input, 0, taken.count));
@@ -129,21 +129,21 @@ fn turn(
 
 // A proved loop must end, and the input need not. So the loop counts its turns down, from a number that no run exhausts.
 fn run(line: &mut [u8; 128], out: &mut [u8; 65536], input: &mut [u8; 65536]) -> State {
-    let mut s = start();
+    let mut s = new_state();
     let mut turns = u64::MAX;
     while turns > 0 {
         if !s.streams.is_open {
             return s;
         }
-        s = turn(s, line, out, input);
+        s = answer_read(s, line, out, input);
         turns -= 1;
     }
-    broken(s)
+    with_failure(s)
 }
 
-fn broken(mut s: State) -> State {
+fn with_failure(mut s: State) -> State {
     let streams = s.streams;
-    let next = cmd_streams::broken(streams);
+    let next = cmd_streams::with_failure(streams);
     s.streams = next;
     s
 }

@@ -37,7 +37,7 @@ struct State {
     streams: Streams,
 }
 
-fn start(first: Taken) -> State
+fn new_state(first: Taken) -> State
     ensures { λ r. ⌜ r .filled ≡ 0 ⌝ }
 {
     let streams = first.streams;
@@ -167,7 +167,7 @@ fn read_on(mut s: State, out: &[u8; 65536], input: &mut [u8; 65536]) -> State
     ensures { λ r. ⌜ r .filled ≡ s .filled ⌝ }
 {
     let streams = s.streams;
-    let taken = cmd_streams::take(cmd_streams::flush(streams, out), input);
+    let taken = cmd_streams::read_once(cmd_streams::flush(streams, out), input);
     let next = taken.streams;
     s.streams = next;
     s.count = taken.count;
@@ -175,7 +175,7 @@ fn read_on(mut s: State, out: &[u8; 65536], input: &mut [u8; 65536]) -> State
 }
 
 // Answers the lines that the current read completes, and reads on.
-fn turn(
+fn answer_read(
     s: State,
     op: u32,
     line: &mut [u8; 128],
@@ -200,11 +200,11 @@ fn turn(
     read_on(u, out, input)
 }
 
-fn broken(mut s: State) -> State
+fn with_failure(mut s: State) -> State
     ensures { λ r. ⌜ r .filled ≡ s .filled ⌝ }
 {
     let streams = s.streams;
-    let next = cmd_streams::broken(streams);
+    let next = cmd_streams::with_failure(streams);
     s.streams = next;
     s
 }
@@ -228,10 +228,10 @@ fn run(
         if s.count == 0 {
             return s;
         }
-        s = turn(s, op, line, xs, marks, out, input);
+        s = answer_read(s, op, line, xs, marks, out, input);
         turns -= 1;
     }
-    broken(s)
+    with_failure(s)
 }
 
 // Ends a last line that has no line feed.
@@ -258,7 +258,7 @@ fn main() {
     let mut marks = [0u64; 8192];
     let mut out = io::large_buffer();
     let mut input = io::large_buffer();
-    let first = cmd_streams::take(cmd_streams::opened(), &mut input);
+    let first = cmd_streams::read_once(cmd_streams::open_streams(), &mut input);
     if first.count == 0 {
         cmd_streams::close(first.streams, &out, 0);
         return;
@@ -267,7 +267,7 @@ fn main() {
         return;
     };
     let s = run(
-        start(first),
+        new_state(first),
         op,
         &mut line,
         &mut xs,

@@ -11,7 +11,7 @@ use Rattle.ieee.specs.Exact.{Exact, ratio}
 use Rattle.ieee.specs.Round.{Way, shorter, rounded, middle}
 use Rattle.ieee.proofs.Decide.{alike}
 use Rattle.ieee.proofs.Sides.{Sound, over-reads, under-reads}
-use Rattle.ieee.proofs.Alike.{Beside, Places, same-side}
+use Rattle.ieee.proofs.Alike.{Beside, threshold, same-side}
 use Rattle.ieee.proofs.Rises.{ratio-at-most}
 use Rattle.round_laws.specs.Location.{below, stretched}
 use Rattle.round_laws.proofs.Parts.{tells}
@@ -29,7 +29,7 @@ same-ratio n d k e p q h s =
 pub same-lies : (f : Format) (x y : Exact) → ((s : ℕ) → Beside x y s) → {m p : ℕ} → Lies f y m p → Lies f x m p
 unfolding below
 same-lies f x y b {m} {p} l =
-    let e : below f x ≡ m = same-side f shorter x y (λ j k. b (Places f shorter j)) ∙ l .0 in
+    let e : below f x ≡ m = same-side f shorter x y (λ j k. b (threshold f shorter j)) ∙ l .0 in
     let at-m = alike (under-reads x (2 * units f m)) (under-reads y (2 * units f m)) (b (2 * units f m) .below) in
     let at-least = alike (over-reads x (middle f m)) (over-reads y (middle f m)) (b (middle f m) .above) in
     let at-most = alike (under-reads x (middle f m)) (under-reads y (middle f m)) (b (middle f m) .below) in
@@ -54,7 +54,7 @@ stretched-same u z s n e c X q t = rw stretched-ratio (same-ratio (u * 2 ^ up n)
 
 -- u * 2 ^ n is v * 2 ^ k
 pub stretched-alike : (f : Format) (w : Way) (u v : ℕ) (n k : ℤ) → u * 2 ^ (up n + dn k) ≡ v * 2 ^ (up k + dn n) → rounded f w (stretched u n) ≡ rounded f w (stretched v k)
-stretched-alike f w u v n k e = same-side f w (stretched u n) (stretched v k) (λ j l. rw (stretched-ratio u n, stretched-ratio v k) (beside (Places f w j)))
+stretched-alike f w u v n k e = same-side f w (stretched u n) (stretched v k) (λ j l. rw (stretched-ratio u n, stretched-ratio v k) (beside (threshold f w j)))
   where
     beside : (t : ℕ) → Beside (ratio (u * 2 ^ up n) (2 ^ dn n)) (ratio (v * 2 ^ up k) (2 ^ dn k)) t
     beside =
@@ -63,7 +63,7 @@ stretched-alike f w u v n k e = same-side f w (stretched u n) (stretched v k) (�
 
 -- a step of 2 ^ a / 2 ^ b is one of 2 ^ n
 pub ratio-stretched : (f : Format) (w : Way) (s a b : ℕ) (n : ℤ) → up n + b ≡ dn n + a → rounded f w (ratio (s * 2 ^ a) (2 ^ b)) ≡ rounded f w (stretched s n)
-ratio-stretched f w s a b n e = same-side f w (ratio (s * 2 ^ a) (2 ^ b)) (stretched s n) (λ j l. rw (stretched-ratio s n) (beside (Places f w j)))
+ratio-stretched f w s a b n e = same-side f w (ratio (s * 2 ^ a) (2 ^ b)) (stretched s n) (λ j l. rw (stretched-ratio s n) (beside (threshold f w j)))
   where
     level : 2 ^ a * 2 ^ dn n ≡ 2 ^ up n * 2 ^ b
     level = sym (pow-add 2 a (dn n)) ∙ ap (λ i. 2 ^ i) (omega arith) ∙ pow-add 2 (up n) b

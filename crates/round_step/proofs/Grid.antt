@@ -11,7 +11,7 @@ use Rattle.ieee.specs.Exact.{Exact, Over}
 use Rattle.ieee.specs.Round.{Way, even, away, shorter, longer, middle, rounded}
 use Rattle.ieee.proofs.Sides.{Sound, over-down, apart}
 use Rattle.ieee.proofs.Units.{units-is, units-at, units-mono, units-lt}
-use Rattle.ieee.proofs.Alike.{Beside, Places, same-side}
+use Rattle.ieee.proofs.Alike.{Beside, threshold, same-side}
 
 abbrev pub Multiple : ℕ → ℕ → Type 0
 Multiple p n = (k : ℕ) × (n ≡ k * p)
@@ -48,7 +48,7 @@ module _ (f : Format) (c : ℕ) where
       (λ l. let (k, e) = units-multiple j l in let (i, d) = units-multiple (suc j) (omega arith) in on (k + i, omega arith))
       (λ l. off (omega (arith, units-lt f l, units-mono f l)))
 
-  location-grid : (w : Way) (j : ℕ) {G : Type 0} → (Multiple (2 ^ c) (Places f w j) → G) → (Places f w j < 2 * units f (start f c) → G) → G
+  location-grid : (w : Way) (j : ℕ) {G : Type 0} → (Multiple (2 ^ c) (threshold f w j) → G) → (threshold f w j < 2 * units f (start f c) → G) → G
   location-grid even j on off = middle-grid j on off
   location-grid away j on off = middle-grid j on off
   location-grid shorter j on off = twice-grid (suc j) on off
@@ -65,7 +65,7 @@ beside-below x y p q l o v =
 -- at c = 0 the grid alone decides; for larger c, x and y must be at or past its start
 pub alike-on-grid : (f : Format) (w : Way) (c : ℕ) (x y : Exact) → Sound x → Sound y
     → (0 < c → Over x (2 * 2 ^ (f .frac + c)) × Over y (2 * 2 ^ (f .frac + c))) → ((k : ℕ) → Beside x y (k * 2 ^ c)) → rounded f w x ≡ rounded f w y
-alike-on-grid f w zero x y p q o b = same-side f w x y (λ j l. subst (Beside x y) (omega arith) (b (Places f w j)))
+alike-on-grid f w zero x y p q o b = same-side f w x y (λ j l. subst (Beside x y) (omega arith) (b (threshold f w j)))
 alike-on-grid f w (suc c) x y p q o b =
     let (past-x, past-y) = o (omega arith) in
     same-side f w x y (λ j l. location-grid f (suc c) w j

@@ -6,14 +6,14 @@ use native.Mathlib.Omega.{arith, by-contra}
 use Rattle.algebra.proofs.Products.{le-split, times-le, mul-le-cancel, mul-lt-cancel}
 use Rattle.sqrt_laws.specs.Near.{Near, Almost, Within}
 use Rattle.sqrt_laws.proofs.Cubes.{final-le, final-ge}
-use Rattle.sqrt_laws.proofs.Roundoffs.{Cut, Sides, sides, rest}
+use Rattle.sqrt_laws.proofs.Roundoffs.{RoundedDown, Sides, sides, rest}
 
 -- ---- the last step: Y = s u / B is the root within 4 and c m
 pub record Ends (Q m Y c : ℕ) : Type 0 where
   pub lo : 4 * (Y * Y) ≤ m * Q
   pub hi : m * Q ≤ 4 * ((Y + 4) * (Y + 4)) + c * m
 
-pub last : (Q m r s d u Y k c : ℕ) → 0 < Q → r ≤ 4 * Q → m < 4 * Q → Cut Q m r s d u → Y * (4 * Q) ≤ s * u → s * u < (Y + 1) * (4 * Q)
+pub last : (Q m r s d u Y k c : ℕ) → 0 < Q → r ≤ 4 * Q → m < 4 * Q → RoundedDown Q m r s d u → Y * (4 * Q) ≤ s * u → s * u < (Y + 1) * (4 * Q)
     → Near Q m r k → k * k ≤ c * Q → Ends Q m Y c
 last Q m r s d u Y k c p hr hm t l h n hk =
     let (w, e) = rest Q m r k n in

@@ -7,7 +7,7 @@ use Rattle.algebra.proofs.Products.{le-split, times, times-le, mul-le-cancel}
 use Rattle.sqrt_laws.specs.Near.{Near}
 
 -- ---- the truncations: s = m r / B, d = s r / B, u = 3 Q - 2 - d, B = 4 Q
-pub record Cut (Q m r s d u : ℕ) : Type 0 where
+pub record RoundedDown (Q m r s d u : ℕ) : Type 0 where
   pub s-lo : s * (4 * Q) ≤ m * r
   pub s-hi : m * r < (s + 1) * (4 * Q)
   pub d-lo : d * (4 * Q) ≤ s * r
@@ -19,7 +19,7 @@ pub record Sides (Q m r u w : ℕ) : Type 0 where
   pub w-lo : u * (16 * (Q * Q)) < w
   pub w-hi : w ≤ (u + 2) * (16 * (Q * Q))
 
-pub sides : (Q m r s d u w : ℕ) → 0 < Q → r ≤ 4 * Q → Cut Q m r s d u → w + m * (r * r) ≡ 3 * (16 * (Q * (Q * Q))) → Sides Q m r u w
+pub sides : (Q m r s d u w : ℕ) → 0 < Q → r ≤ 4 * Q → RoundedDown Q m r s d u → w + m * (r * r) ≡ 3 * (16 * (Q * (Q * Q))) → Sides Q m r u w
 sides Q m r s d u w p hr c e =
     let a : d * (16 * (Q * Q)) ≤ m * (r * r) = omega (arith, times-le r (c .s-lo), times-le (4 * Q) (c .d-lo)) in
     let b : m * (r * r) < (d + 2) * (16 * (Q * Q)) = omega (arith, times-le r (c .s-hi), times-le (4 * Q) (c .d-hi), times-le (4 * Q) hr) in

@@ -7,9 +7,9 @@ use Rattle.algebra.proofs.Products.{cross, times-le, mul-le-cancel, mul-lt-canc
 use Rattle.algebra.proofs.Roots.{sq-le, sq-lt}
 use Rattle.sqrt_laws.specs.Near.{Near, NearBelow}
 use Rattle.sqrt_laws.proofs.Cubes.{round-le, round-ge}
-use Rattle.sqrt_laws.proofs.Roundoffs.{Cut, Sides, sides, rest}
+use Rattle.sqrt_laws.proofs.Roundoffs.{RoundedDown, Sides, sides, rest}
 
-pub step : (Q m r s d u r′ k k′ : ℕ) → 50 ≤ Q → 0 < r → r ≤ 4 * Q → 0 < m → m ≤ 4 * Q → Cut Q m r s d u → r′ * (2 * Q) ≤ r * u → r * u < (r′ + 1) * (2 * Q)
+pub step : (Q m r s d u r′ k k′ : ℕ) → 50 ≤ Q → 0 < r → r ≤ 4 * Q → 0 < m → m ≤ 4 * Q → RoundedDown Q m r s d u → r′ * (2 * Q) ≤ r * u → r * u < (r′ + 1) * (2 * Q)
     → Near Q m r k → k′ ≤ Q → 2 * (k * k) + 11 * Q ≤ 2 * (k′ * Q) → NearBelow Q m r′ k′
 step Q m r s d u r′ k k′ p r0 hr m0 hm c l h n small′ hk =
     let (w, e) = rest Q m r k n in

@@ -6,7 +6,7 @@ use Rattle.algebra.proofs.Products.{mul-lt-cancel}
 use Rattle.algebra.proofs.Quotients.{div-mod}
 use Rattle.sqrt_laws.specs.Near.{Near, NearBelow}
 use Rattle.sqrt_laws.specs.Round.{rootBy, squareBy, factor, next, last}
-use Rattle.sqrt_laws.proofs.Roundoffs.{Cut, room, twice}
+use Rattle.sqrt_laws.proofs.Roundoffs.{RoundedDown, room, twice}
 use Rattle.sqrt_laws.proofs.Rounds.{step, positive}
 use Rattle.sqrt_laws.proofs.Lasts as lasts
 use Rattle.sqrt_laws.proofs.Lasts.{Ends}
@@ -46,8 +46,8 @@ module _ (Q m r : ℕ) (big : 50 ≤ Q) (hm : m < 4 * Q) (hr : r < 4 * Q) where
         su = digits s u;
       }
 
-  pub cut-is : Safe Q m r → Cut Q m r (rootBy Q m r) (squareBy Q m r) (factor Q m r)
-  cut-is f =
+  pub rounded-down-is : Safe Q m r → RoundedDown Q m r (rootBy Q m r) (squareBy Q m r) (factor Q m r)
+  rounded-down-is f =
       record {
         s-lo = down (m * r) (4 * Q) (omega arith);
         s-hi = up (m * r) (4 * Q) (omega arith);
@@ -59,11 +59,11 @@ module _ (Q m r : ℕ) (big : 50 ≤ Q) (hm : m < 4 * Q) (hr : r < 4 * Q) where
   pub next-near : (k k′ : ℕ) → Q ≤ m → k < Q → k′ ≤ Q → Near Q m r k → 2 * (k * k) + 11 * Q ≤ 2 * (k′ * Q) → NearBelow Q m (next Q m r) k′
   next-near k k′ lm hk hk′ n e =
       step Q m r (rootBy Q m r) (squareBy Q m r) (factor Q m r) (next Q m r) k k′ big (positive Q m r k hk n) (omega arith) (omega arith) (omega arith)
-      (cut-is (safe (twice Q m r k n)))
+      (rounded-down-is (safe (twice Q m r k n)))
       (down (r * factor Q m r) (2 * Q) (omega arith)) (up (r * factor Q m r) (2 * Q) (omega arith)) n hk′ e
 
   pub last-near : (k c : ℕ) → Near Q m r k → k * k ≤ c * Q → Ends Q m (last Q m r) c
   last-near k c n e =
       lasts.last Q m r (rootBy Q m r) (squareBy Q m r) (factor Q m r) (last Q m r) k c (omega arith) (omega arith) hm
-      (cut-is (safe (twice Q m r k n)))
+      (rounded-down-is (safe (twice Q m r k n)))
       (down (rootBy Q m r * factor Q m r) (4 * Q) (omega arith)) (up (rootBy Q m r * factor Q m r) (4 * Q) (omega arith)) n e

@@ -56,7 +56,7 @@ fn leads_with_zero(s: &[u8]) -> bool
 }
 
 // A number without a sign. A number above 4294967296 counts as that one, which is out of every range.
-fn decimal(s: &[u8]) -> Field
+fn read_number(s: &[u8]) -> Field
     ensures { λ r. ⌜ r ≡ cappedField 4294967296 (naturalOf (now (s .entry))) ⌝ }
 {
     if s.len() == 0 {
@@ -68,7 +68,7 @@ fn decimal(s: &[u8]) -> Field
     as_field(read_decimal(s))
 }
 
-fn plain(f: Field) -> Field
+fn in_unsigned_range(f: Field) -> Field
     ensures { λ r. ⌜ r ≡ upTo 4294967295 f ⌝ }
 {
     match f {
@@ -87,10 +87,10 @@ fn plain(f: Field) -> Field
 pub fn read_unsigned(s: &[u8]) -> Field
     ensures { λ r. ⌜ r ≡ upTo 4294967295 (naturalOf (now (s .entry))) ⌝ }
 {
-    plain(decimal(s))
+    in_unsigned_range(read_number(s))
 }
 
-fn plus(f: Field) -> Signed
+fn as_positive(f: Field) -> Signed
     ensures { λ r. ⌜ r ≡ plusOf f ⌝ }
 {
     match f {
@@ -105,14 +105,14 @@ fn plus(f: Field) -> Signed
     }
 }
 
-fn negated(v: u64) -> i32
+fn negate(v: u64) -> i32
     requires { ⌜ v ≤ 2147483648 ⌝ }
     ensures { λ r. ⌜ r ≡ negℤ (pos v) ⌝ }
 {
     (0 - v as i64) as i32
 }
 
-fn minus(f: Field) -> Signed
+fn as_negative(f: Field) -> Signed
     ensures { λ r. ⌜ r ≡ minusOf f ⌝ }
 {
     match f {
@@ -123,7 +123,7 @@ fn minus(f: Field) -> Signed
             if v > 2147483648 {
                 return Signed::NoInteger(Fault::OutOfRange);
             }
-            Signed::Integer(negated(v))
+            Signed::Integer(negate(v))
         }
         Field::Not(e) => Signed::NoInteger(e),
     }
@@ -137,8 +137,8 @@ pub fn read_signed(s: &[u8]) -> Signed
         return Signed::NoInteger(Fault::NoDigit);
     }
     if s[0] == 45 {
-        minus(decimal(&s[1..]))
+        as_negative(read_number(&s[1..]))
     } else {
-        plus(decimal(s))
+        as_positive(read_number(s))
     }
 }

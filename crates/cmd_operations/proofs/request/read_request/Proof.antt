@@ -22,14 +22,14 @@ row-of-name s r n e d b = rw (r, n, e, d, b)
 returns : tie.Need-returns
 returns c =
     let n = c .before .before .before .before .before in
-    c .before .start .ensures
+    c .before .new-request .ensures
     ∙ row-of-name _ (n .row-of .ensures) (n .before .part .ensures) (n .before .before .name-end .ensures) (n .before .before .before .find2 .ensures .0) (n .before .before .before .before .find .ensures .0)
 
 returns-2 : tie.Need-returns-2
 returns-2 c =
     let m = c .before .before in
     let n = m .before .before .before .before .before .before in
-    ⊎-elim (λ w. ap (λ (r : Request). r .row) (w .3) ∙ w .2 .ensures) (λ w. ap (λ (r : Request). r .row) (w .1)) (m .if2 .came) ∙ m .before .before .start .ensures
+    ⊎-elim (λ w. ap (λ (r : Request). r .row) (w .3) ∙ w .2 .ensures) (λ w. ap (λ (r : Request). r .row) (w .1)) (m .if2 .came) ∙ m .before .before .new-request .ensures
     ∙ row-of-name _ (n .row-of .ensures) (n .before .part .ensures) (n .before .before .name-end .ensures) (n .before .before .before .find2 .ensures .0) (n .before .before .before .before .find .ensures .0)
 
 returns-3 : tie.Need-returns-3
@@ -37,7 +37,7 @@ returns-3 c =
     let m = c .before .before .before in
     let n = m .before .before .before .before .before .before in
     c .read-operands .ensures
-    ∙ ⊎-elim (λ w. ap (λ (r : Request). r .row) (w .3) ∙ w .2 .ensures) (λ w. ap (λ (r : Request). r .row) (w .1)) (m .if2 .came) ∙ m .before .before .start .ensures
+    ∙ ⊎-elim (λ w. ap (λ (r : Request). r .row) (w .3) ∙ w .2 .ensures) (λ w. ap (λ (r : Request). r .row) (w .1)) (m .if2 .came) ∙ m .before .before .new-request .ensures
     ∙ row-of-name _ (n .row-of .ensures) (n .before .part .ensures) (n .before .before .name-end .ensures) (n .before .before .before .find2 .ensures .0) (n .before .before .before .before .find .ensures .0)
 
 pub read-request-spec : {M : Type 1} → statement M

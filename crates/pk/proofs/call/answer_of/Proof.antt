@@ -37,4 +37,4 @@ answer-of-spec =
     (λ c. under 12 _ (c .before .before .match .keys13) (both two (c .status323 .ensures) (c .before .sqrt32-status .ensures)))
     (λ c. under 13 _ (c .before .before .match .keys14) (c .word643 .ensures ∙ ap one (c .before .fma64 .ensures)))
     (λ c. under 14 _ (c .before .before .match .keys15) (c .word323 .ensures ∙ ap one (c .before .fma32 .ensures)))
-    (λ c. no-row _ (c .before .match .rest) (c .two .ensures)))
+    (λ c. no-row _ (c .before .match .rest) (c .two-answers .ensures)))

@@ -16,34 +16,34 @@ returns c = simp (eq-eqb _ _ (c .if1 .taken))
 shared-slice-read-if2 : tie.Need-shared-slice-read-if2
 shared-slice-read-if2 c = search needs
 
-sub-decimal : tie.Need-sub-decimal
-sub-decimal c = search needs
+sub-read-number : tie.Need-sub-read-number
+sub-read-number c = search needs
 
-part-decimal-start : tie.Need-part-decimal-start
-part-decimal-start c = search needs
+part-read-number-start : tie.Need-part-read-number-start
+part-read-number-start c = search needs
 
-part-decimal-end : tie.Need-part-decimal-end
-part-decimal-end c = search needs
+part-read-number-end : tie.Need-part-read-number-end
+part-read-number-end c = search needs
 
-decimal-requires : tie.Need-decimal-requires
-decimal-requires c κs = search needs
+read-number-requires : tie.Need-read-number-requires
+read-number-requires c κs = search needs
 
-minus-requires : tie.Need-minus-requires
-minus-requires c κs = search needs
+as-negative-requires : tie.Need-as-negative-requires
+as-negative-requires c κs = search needs
 
-decimal-requires-2 : tie.Need-decimal-requires-2
-decimal-requires-2 c κs = search needs
+read-number-requires-2 : tie.Need-read-number-requires-2
+read-number-requires-2 c κs = search needs
 
-plus-requires : tie.Need-plus-requires
-plus-requires c κs = search needs
+as-positive-requires : tie.Need-as-positive-requires
+as-positive-requires c κs = search needs
 
 returns-2 : tie.Need-returns-2
 unfolding signedOf
 returns-2 c =
     let s = now (c .before .before .before .before .before .before .before .args .s) in
     simp (
-      c .minus .ensures,
-      c .before .decimal .ensures,
+      c .as-negative .ensures,
+      c .before .read-number .ensures,
       rest-whole 1 s,
       ne-eqb _ _ (c .before .before .before .before .before .if1 .left),
       eq-eqb _ _ (c .before .before .before .if2 .taken),
@@ -53,7 +53,7 @@ returns-2 c =
 returns-3 : tie.Need-returns-3
 unfolding signedOf
 returns-3 c =
-    simp (c .plus .ensures, c .before .decimal2 .ensures, ne-eqb _ _ (c .before .before .before .before .if1 .left), ne-eqb _ _ (c .before .before .if2 .left))
+    simp (c .as-positive .ensures, c .before .read-number2 .ensures, ne-eqb _ _ (c .before .before .before .before .if1 .left), ne-eqb _ _ (c .before .before .if2 .left))
     (plus-cap (naturalOf (now (c .before .before .before .before .before .before .args .s))))
 
 pub read-signed-spec : {M : Type 1} → statement M
@@ -62,12 +62,12 @@ read-signed-spec =
     (tie.spec
     returns
     shared-slice-read-if2
-    sub-decimal
-    part-decimal-start
-    part-decimal-end
-    decimal-requires
-    minus-requires
-    decimal-requires-2
-    plus-requires
+    sub-read-number
+    part-read-number-start
+    part-read-number-end
+    read-number-requires
+    as-negative-requires
+    read-number-requires-2
+    as-positive-requires
     returns-2
     returns-3)

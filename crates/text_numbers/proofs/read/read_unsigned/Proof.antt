@@ -6,14 +6,14 @@ use Rattle.text_numbers.proofs.Limits.{up-cap}
 use Rattle.text_numbers.proofs.read.read_unsigned.Statement.{statement}
 use Rattle.text_numbers.proofs.read.read_unsigned.Tie as tie
 
-decimal-requires : tie.Need-decimal-requires
-decimal-requires c κs = search needs
+read-number-requires : tie.Need-read-number-requires
+read-number-requires c κs = search needs
 
-plain-requires : tie.Need-plain-requires
-plain-requires c κs = search needs
+in-unsigned-range-requires : tie.Need-in-unsigned-range-requires
+in-unsigned-range-requires c κs = search needs
 
 returns : tie.Need-returns
-returns c = simp (c .plain .ensures, c .before .decimal .ensures) (up-cap (naturalOf (now (c .before .before .before .args .s))))
+returns c = simp (c .in-unsigned-range .ensures, c .before .read-number .ensures) (up-cap (naturalOf (now (c .before .before .before .args .s))))
 
 pub read-unsigned-spec : {M : Type 1} → statement M
-read-unsigned-spec = tie.close (tie.spec decimal-requires plain-requires returns)
+read-unsigned-spec = tie.close (tie.spec read-number-requires in-unsigned-range-requires returns)

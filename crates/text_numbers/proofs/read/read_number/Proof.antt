@@ -1,11 +1,11 @@
--- `text_numbers::read::decimal` meets its contract, by the same tests. Assumes nothing.
+-- `text_numbers::read::read_number` meets its contract, by the same tests. Assumes nothing.
 use mathlib.Core.Path.{sym}
 use borrow.Author.Tests.{eq-eqb, ne-eqb}
 use borrow.Author.Needs.{needs}
 use Rattle.text_numbers.specs.Fields.{naturalOf}
 use Rattle.text_numbers.proofs.Limits.{field-cap}
-use Rattle.text_numbers.proofs.read.decimal.Statement.{statement}
-use Rattle.text_numbers.proofs.read.decimal.Tie as tie
+use Rattle.text_numbers.proofs.read.read_number.Statement.{statement}
+use Rattle.text_numbers.proofs.read.read_number.Tie as tie
 
 returns : tie.Need-returns
 unfolding naturalOf
@@ -36,8 +36,8 @@ returns-3 c =
       c .before .before .if2 .left,
     )
 
-pub decimal-spec : {M : Type 1} → statement M
-decimal-spec =
+pub read-number-spec : {M : Type 1} → statement M
+read-number-spec =
     tie.close
     (tie.spec
     returns

@@ -1,11 +1,11 @@
--- `text_numbers::read::plus` meets its contract, by the same test. Assumes nothing.
+-- `text_numbers::read::as_positive` meets its contract, by the same test. Assumes nothing.
 use native.Mathlib.Omega.{arith}
 use mir.Syntax.{w32}
 use mir.ValLaws.{toZ-pos}
 use borrow.Author.Tests.{lt-ltb, le-ltb}
 use borrow.Author.Needs.{needs}
-use Rattle.text_numbers.proofs.read.plus.Statement.{statement}
-use Rattle.text_numbers.proofs.read.plus.Tie as tie
+use Rattle.text_numbers.proofs.read.as_positive.Statement.{statement}
+use Rattle.text_numbers.proofs.read.as_positive.Tie as tie
 
 enum-known-f : tie.Need-enum-known-f
 enum-known-f c = search needs
@@ -25,5 +25,5 @@ returns-2 c = simp (c .before .before .f .given .1, le-ltb _ _ (c .if1 .left), t
 returns-3 : tie.Need-returns-3
 returns-3 c = simp (c .before .f2 .given .1)
 
-pub plus-spec : {M : Type 1} → statement M
-plus-spec = tie.close (tie.spec enum-known-f cast-t8 enum-known-f-2 returns returns-2 returns-3)
+pub as-positive-spec : {M : Type 1} → statement M
+as-positive-spec = tie.close (tie.spec enum-known-f cast-t8 enum-known-f-2 returns returns-2 returns-3)

@@ -1,9 +1,9 @@
--- `text_numbers::read::negated` meets its contract: the machine computes the negative number (Signs). Assumes nothing.
+-- `text_numbers::read::negate` meets its contract: the machine computes the negative number (Signs). Assumes nothing.
 use native.Mathlib.Omega.{arith}
 use borrow.Author.Needs.{needs}
 use Rattle.text_numbers.proofs.Signs.{less-fits, narrow-fits, narrow-is}
-use Rattle.text_numbers.proofs.read.negated.Statement.{statement}
-use Rattle.text_numbers.proofs.read.negated.Tie as tie
+use Rattle.text_numbers.proofs.read.negate.Statement.{statement}
+use Rattle.text_numbers.proofs.read.negate.Tie as tie
 
 cast-result : tie.Need-cast-result
 cast-result c = search needs
@@ -17,5 +17,5 @@ cast-result-2 c = narrow-fits (c .args .v) (omega arith)
 returns : tie.Need-returns
 returns c = narrow-is (c .args .v) (omega arith)
 
-pub negated-spec : {M : Type 1} → statement M
-negated-spec = tie.close (tie.spec cast-result sub-result cast-result-2 returns)
+pub negate-spec : {M : Type 1} → statement M
+negate-spec = tie.close (tie.spec cast-result sub-result cast-result-2 returns)
