@@ -3,9 +3,8 @@ ghost use mathlib.Core.Path.{_≡_};
 ghost use mathlib.Core.Bool.{cond};
 ghost use Prim.Native.Nat.{_*_, _/_, _%_, _≤_, _<_, _^_};
 ghost use lib.Dec.{leb};
-use reduce_modular::modular32::linear_mul_reduction32;
-use reduce_modular::modular64::linear_mul_reduction64;
-use reduce_stepwise::reduce_stepwise64;
+use reduce_modular::modular::linear_mul_reduction;
+use reduce_stepwise::reduce_stepwise;
 use word_bits::shl_carry;
 use word_division::division::div;
 use word_wide::Wide;
@@ -50,12 +49,12 @@ pub fn reduction64(x: u64, e: u32, y: u64) -> u64
 {
     let near = reduce_below_twice(x, y);
     if e < 32 {
-        return reduce_stepwise64(near, e, y);
+        return reduce_stepwise(near, e, y);
     }
     if e < 64 {
         return by_division64(near, e, y);
     }
-    linear_mul_reduction64(near, e, y)
+    linear_mul_reduction(near, e, y)
 }
 
 // Here the division is the machine's own, and serves the short shifts too.
@@ -67,5 +66,5 @@ pub fn reduction32(x: u32, e: u32, y: u32) -> u32
     if e < 32 {
         return by_division32(near, e, y);
     }
-    linear_mul_reduction32(near, e, y)
+    linear_mul_reduction(near as u64, e, y as u64) as u32
 }

@@ -3,5 +3,6 @@ pub mod Bounds
 pub mod Only
 pub mod Rounds
 pub mod Scales
+pub mod Starts
 pub mod Steps
 pub mod Widths

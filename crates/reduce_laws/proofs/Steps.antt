@@ -30,12 +30,11 @@ started s n x f r a b l e h = record { whole-is = d .0; rest-is = d .1; kept = k
 pub record Next (s n x q r p a b y : ℕ) : Type 0 where
   pub parts : x * p ≡ a * n + y
   pub kept : Kept s n y q r (a * r + b)
-  pub word : a + 2 < 2 * s
   pub room : a * r + b < 4 * (s * s)
 
 -- t p is a R R / 2 + b, with b below R R / 2
 pub next : {s n x q r t : ℕ} → Kept s n x q r t → (p a b : ℕ) → a * (2 * (s * s)) + b ≡ t * p → b < 2 * (s * s) → p ≤ s → Next s n x q r p a b (x * p - a * n)
-next {s} {n} {x} {q} {r} {t} k p a b e l h = record { parts = parts; kept = kept; word = word; room = omega (arith, room, k .whole) }
+next {s} {n} {x} {q} {r} {t} k p a b e l h = record { parts = parts; kept = kept; room = omega (arith, room, k .whole) }
   where
     y : ℕ
     y = x * p - a * n

@@ -64,10 +64,10 @@ module _ {w : ℕ} (wide : 3 ≤ w) where
     z : Started s n x f r
     z = started s n x f r (omega (arith, a, eighth-is)) (omega (arith, b, quarter-is)) h (omega (arith, e, times (s - 2 * n) word-is)) d
 
-    pub start-room : 2 * x * 2 ^ w + 2 * x * f < 2 ^ w * 2 ^ w
+    start-room : 2 * x * 2 ^ w + 2 * x * f < 2 ^ w * 2 ^ w
     start-room = omega (arith, product-room (z .kept), times (2 * x) word-is, times (2 ^ w) word-is, times (2 * s) word-is)
 
-    pub start-holds : Holds w n x (2 * n) r (2 * x * 2 ^ w + 2 * x * f)
+    start-holds : Holds w n x (2 * n) r (2 * x * 2 ^ w + 2 * x * f)
     start-holds =
         holds-of refl (sym (z .rest-is) ∙ ap (λ i. i % (2 * n)) (sym half-is))
         (subst (λ q. Kept s n x q r (2 * x * 2 ^ w + 2 * x * f)) (sym (z .whole-is) ∙ ap (λ i. i / (2 * n)) (sym half-is))
@@ -98,10 +98,8 @@ module _ {w : ℕ} (wide : 3 ≤ w) where
     step : (i a b : ℕ) → i < w → a * half w + b ≡ t * 2 ^ i → b < half w → Next s (m / 2) (heldOf w m t) (half w / m) r (2 ^ i) a b (heldOf w m t * 2 ^ i - a * (m / 2))
     step i a b l e d = next k (2 ^ i) a b (omega (arith, e, times a half-is)) (omega (arith, d, half-is)) (pow-mono (omega arith))
 
-    step-room : (i a b : ℕ) → i < w → a * half w + b ≡ t * 2 ^ i → b < half w → (a < 2 ^ w) × (a * r + b < 2 ^ w * 2 ^ w)
-    step-room i a b l e d =
-        let z = step i a b l e d in
-        (omega (arith, z .word, word-is), omega (arith, z .room, times (2 ^ w) word-is, times (2 * s) word-is))
+    step-room : (i a b : ℕ) → i < w → a * half w + b ≡ t * 2 ^ i → b < half w → a * r + b < 2 ^ w * 2 ^ w
+    step-room i a b l e d = omega (arith, step i a b l e d .room, times (2 ^ w) word-is, times (2 * s) word-is)
 
     step-holds : (i a b : ℕ) → i < w → a * half w + b ≡ t * 2 ^ i → b < half w → Stepped w i m r t a m r (a * r + b)
     step-holds i a b l e d =
@@ -138,8 +136,8 @@ module _ {w : ℕ} (wide : 3 ≤ w) where
       pub shift-fits : b < 2 ^ (w + w)
       shift-fits = omega (arith, shift-lower, half-is, pow-add 2 w w, times (2 ^ w) word-is, times (2 * s) word-is)
 
-      pub shift-room : (t / 2 ^ (2 * w - 1 - i) < 2 ^ w) × (t / 2 ^ (2 * w - 1 - i) * r + b < 2 ^ (w + w))
-      shift-room = let z = step-room i (t / 2 ^ (2 * w - 1 - i)) b l shift-parts shift-lower in (z .0, omega (arith, z .1, pow-add 2 w w))
+      pub shift-room : t / 2 ^ (2 * w - 1 - i) * r + b < 2 ^ (w + w)
+      shift-room = omega (arith, step-room i (t / 2 ^ (2 * w - 1 - i)) b l shift-parts shift-lower, pow-add 2 w w)
 
       pub shift-holds : Stepped w i m r t (t / 2 ^ (2 * w - 1 - i)) m r (t / 2 ^ (2 * w - 1 - i) * r + b)
       shift-holds = step-holds i (t / 2 ^ (2 * w - 1 - i)) b l shift-parts shift-lower
@@ -152,10 +150,10 @@ module _ {w : ℕ} (wide : 3 ≤ w) where
       word-parts : (u * half w + v / 2 * 2 ^ w ≡ t * 2 ^ (w - 1)) × (v / 2 * 2 ^ w < half w)
       word-parts = (omega (arith, halved .parts, times u half-is, times (v / 2) word-is), omega (arith, halved .below, half-is, times (v / 2) word-is))
 
-      pub word-room : u * r + v / 2 * 2 ^ w < 2 ^ w * 2 ^ w
-      word-room = step-room (w - 1) u (v / 2 * 2 ^ w) (omega arith) (word-parts .0) (word-parts .1) .1
+      word-room : u * r + v / 2 * 2 ^ w < 2 ^ w * 2 ^ w
+      word-room = step-room (w - 1) u (v / 2 * 2 ^ w) (omega arith) (word-parts .0) (word-parts .1)
 
-      pub word-holds : Stepped w (w - 1) m r t u m r (u * r + v / 2 * 2 ^ w)
+      word-holds : Stepped w (w - 1) m r t u m r (u * r + v / 2 * 2 ^ w)
       word-holds = step-holds (w - 1) u (v / 2 * 2 ^ w) (omega arith) (word-parts .0) (word-parts .1)
 
       -- the number in two words, the upper with room

@@ -1,2 +1,1 @@
-pub mod Held32
-pub mod Held64
+pub mod Held

@@ -11,7 +11,7 @@ pub fn subtract_once(x: u64, y: u64) -> u64
 }
 
 // The carried remainder is below twice y, so a doubling wraps for no y that leaves two bits free.
-pub fn reduce_stepwise64(x: u64, e: u32, y: u64) -> u64
+pub fn reduce_stepwise(x: u64, e: u32, y: u64) -> u64
     requires { ⌜ (x < 2 * y) × (y < 2 ^ 62) ⌝ }
     ensures { λ r. ⌜ r ≡ x * 2 ^ e % y ⌝ }
 {
@@ -22,11 +22,4 @@ pub fn reduce_stepwise64(x: u64, e: u32, y: u64) -> u64
         i += 1;
     }
     subtract_once(r, y)
-}
-
-pub fn reduce_stepwise32(x: u32, e: u32, y: u32) -> u32
-    requires { ⌜ (x < 2 * y) × (y < 2 ^ 30) ⌝ }
-    ensures { λ r. ⌜ r ≡ x * 2 ^ e % y ⌝ }
-{
-    reduce_stepwise64(x as u64, e, y as u64) as u32
 }

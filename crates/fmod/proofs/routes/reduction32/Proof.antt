@@ -1,6 +1,7 @@
 -- The number passed on is below twice y and has the remainders of x (Reductions), and each route gives the remainder. Assumes nothing.
 use Prim.Native.Nat.{ℕ, _*_, _%_, _^_, _<_}
 use mathlib.Core.Path.{_≡_}
+use native.Mathlib.Nat.{mod-lt}
 use native.Mathlib.Omega.{arith}
 use borrow.Author.Needs.{needs}
 use Rattle.fmod.proofs.Reductions.{near-is}
@@ -18,7 +19,7 @@ returns : tie.Need-returns
 returns c = let o = c .before .before in omega (arith, c .by-division32 .ensures .0, near o .1 (s o .args .e))
 
 returns-2 : tie.Need-returns-2
-returns-2 c = let o = c .before .before in omega (arith, c .linear-mul-reduction32 .ensures, near o .1 (s o .args .e))
+returns-2 c = let o = c .before .before in omega (arith, c .linear-mul-reduction .ensures, near o .1 (s o .args .e))
 
 reduce-below-twice-requires : tie.Need-reduce-below-twice-requires
 reduce-below-twice-requires c κs = search needs
@@ -29,8 +30,16 @@ cast-near c = record { fits = omega (arith, near c .0) }
 by-division32-requires : tie.Need-by-division32-requires
 by-division32-requires c κs = (omega (arith, near (c .before) .0), omega arith)
 
-linear-mul-reduction32-requires : tie.Need-linear-mul-reduction32-requires
-linear-mul-reduction32-requires c κs = (omega (arith, near (c .before) .0), omega arith, omega arith)
+linear-mul-reduction-requires : tie.Need-linear-mul-reduction-requires
+linear-mul-reduction-requires c κs = (omega (arith, near (c .before) .0), omega arith, omega arith)
+
+cast-result : tie.Need-cast-result
+cast-result c =
+    let a = s (c .before .before) .args in
+    record { fits = omega (arith, c .linear-mul-reduction .ensures, mod-lt (c .before .before .reduce-below-twice .result * 2 ^ a .e) {m = a .y} (omega arith)) }
+
+cast-linear-mul-reduction : tie.Need-cast-linear-mul-reduction
+cast-linear-mul-reduction c = search needs
 
 pub reduction32-spec : {M : Type 1} → statement M
-reduction32-spec = tie.close (tie.spec reduce-below-twice-requires cast-near by-division32-requires returns linear-mul-reduction32-requires returns-2)
+reduction32-spec = tie.close (tie.spec reduce-below-twice-requires cast-near by-division32-requires returns cast-linear-mul-reduction linear-mul-reduction-requires cast-result returns-2)
