@@ -2,8 +2,11 @@
 ghost use mathlib.Core.Path.{_≡_};
 ghost use Prim.Native.Nat.{_+_, _*_, _%_, _≤_, _<_, _^_};
 ghost use Rattle.reduce_laws.specs.Reducer.{Power};
+ghost use Rattle.reduce_modular.specs.Held.{Starts};
 use crate::reducer::Reducer;
+use crate::start::start;
 use reduce_stepwise::subtract_once;
+use word_division::digit::Divided;
 
 // By a power of two: the low bits of x times 2^e, or 0 where they are all shifted out.
 pub fn by_power(x: u64, e: u32, y: u64) -> u64
@@ -16,12 +19,12 @@ pub fn by_power(x: u64, e: u32, y: u64) -> u64
     (x << e) & (y - 1)
 }
 
-// By y 2^s, where the reducer accepts that: two leading zeros, not a power of two.
-pub fn by_words(x: u64, e: u32, y: u64, s: u32) -> u64
-    requires { ⌜ (s < 62) × (2 ^ 61 < y * 2 ^ s) × (y * 2 ^ s < 2 ^ 62) × (x < 2 * (y * 2 ^ s)) ⌝ }
-    ensures { λ r. ⌜ r ≡ x * 2 ^ e % (y * 2 ^ s) ⌝ }
+// By an n that the reducer accepts: two leading zeros, not a power of two. d is the division with which it starts.
+pub fn by_words(x: u64, e: u32, n: u64, d: Divided) -> u64
+    requires { ⌜ (2 ^ 61 < n) × (n < 2 ^ 62) × (x < 2 * n) × Starts n d ⌝ }
+    ensures { λ r. ⌜ r ≡ x * 2 ^ e % n ⌝ }
 {
-    let mut state = Reducer::new(x, y, s);
+    let mut state = Reducer::new(x, n, d);
     let mut left = e;
     while left >= 63 {
         let step = state.word_reduce();
@@ -30,7 +33,15 @@ pub fn by_words(x: u64, e: u32, y: u64, s: u32) -> u64
     }
     let last = state.shift_reduce(left);
     let r = last.state.partial_remainder();
-    subtract_once(r, y << s)
+    subtract_once(r, n)
+}
+
+// The scale that leaves y two leading zeros.
+pub fn scale_of(y: u64) -> u32
+    requires { ⌜ (0 < y) × (y < 2 ^ 62) ⌝ }
+    ensures { λ s. ⌜ (s < 62) × (2 ^ 61 ≤ y * 2 ^ s) × (y * 2 ^ s < 2 ^ 62) × (y ≤ y * 2 ^ s) ⌝ }
+{
+    u64::leading_zeros(y) - 2
 }
 
 // The divisor is scaled until it has two leading zeros, and the shift grows by as much; the remainder is then scaled back.
@@ -38,9 +49,10 @@ pub fn linear_mul_reduction(x: u64, e: u32, y: u64) -> u64
     requires { ⌜ (x < 2 * y) × (y < 2 ^ 62) × (e < 2 ^ 31) ⌝ }
     ensures { λ r. ⌜ r ≡ x * 2 ^ e % y ⌝ }
 {
-    let s = u64::leading_zeros(y) - 2;
-    if y << s == 0x2000_0000_0000_0000 {
+    let s = scale_of(y);
+    let n = y << s;
+    if n == 0x2000_0000_0000_0000 {
         return by_power(x, e, y);
     }
-    by_words(x, e + s, y, s) >> s
+    by_words(x, e + s, n, start(y, s)) >> s
 }

@@ -1,9 +1,9 @@
 // The reducer on words of 64 bits: the remainder of x times 2^k by n, for k below 64, with two products and no division.
 ghost use mathlib.Core.Path.{_≡_};
 ghost use Prim.Native.Nat.{_+_, _*_, _<_, _^_};
-ghost use Rattle.reduce_modular.specs.Held.{Holds, held, Reduces, Stepped};
-use crate::start::start;
+ghost use Rattle.reduce_modular.specs.Held.{Starts, Holds, held, Reduces, Stepped};
 use word_bits::low_bits;
+use word_division::digit::Divided;
 use word_wide::Wide;
 use word_wide::product::mul;
 use word_wide::product::mul_hi;
@@ -26,15 +26,14 @@ pub struct Step {
 
 // The contracts leave one state, `holds-only`, and one quotient, `stepped-only` (crates/reduce_laws/proofs/Only.antt).
 impl Reducer {
-    // For the divisor y 2^s. q has one bit more than a word. One division, R(R/2 - m) by m, gives its other bits, f = q - R, and r.
-    pub fn new(x: u64, y: u64, s: u32) -> Reducer
-        requires { ⌜ (s < 62) × (2 ^ 61 < y * 2 ^ s) × (y * 2 ^ s < 2 ^ 62) × (x < 2 * (y * 2 ^ s)) ⌝ }
-        ensures { λ r. ⌜ Holds (y * 2 ^ s) x r ⌝ }
+    // q has one bit more than a word. d, the division with which a reducer for n starts, gives its other bits, f = q - R, and r.
+    pub fn new(x: u64, n: u64, d: Divided) -> Reducer
+        requires { ⌜ (2 ^ 61 < n) × (n < 2 ^ 62) × (x < 2 * n) × Starts n d ⌝ }
+        ensures { λ s. ⌜ Holds n x s ⌝ }
     {
-        let d = start(y, s);
         let twice = 2 * x;
         Reducer {
-            m: 2 * (y << s),
+            m: 2 * n,
             r: d.remainder,
             product: Wide {
                 hi: twice + mul_hi(twice, d.quotient),

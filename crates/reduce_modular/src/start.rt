@@ -5,9 +5,9 @@ use word_division::digit::Divided;
 use word_division::division::div;
 use word_wide::Wide;
 
-// For a y of at most 31 bits, in two machine divisions: RR/2 is 2^(126 - s) times 2^(s + 1), and y divides the first factor digit by digit, 2^63 and then the
-// remaining 63 - s bits. The shift drops the bit R of the quotient.
-fn start_short(y: u64, s: u32) -> Divided
+// For a y of at most 31 bits, by two machine divisions: RR/2 by m is 2^(126 - s) by y, and that goes in two digits, 2^63 and then 63 - s bits more.
+// The shift drops the quotient's bit R.
+pub fn start_short(y: u64, s: u32) -> Divided
     requires { ⌜ (y < 2 ^ 31) × (s < 62) × (2 ^ 61 < y * 2 ^ s) × (y * 2 ^ s < 2 ^ 62) ⌝ }
     ensures { λ d. ⌜ Starts (y * 2 ^ s) d ⌝ }
 {

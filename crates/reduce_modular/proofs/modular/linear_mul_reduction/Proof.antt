@@ -1,52 +1,63 @@
 -- `reduce_modular::modular::linear_mul_reduction` meets its contract: a divisor with two leading zeros, scaled back (reduce_laws: Scales). Assumes nothing.
-use mathlib.Core.Path.{sym, ap, _∙_}
-use Prim.Native.Nat.{ℕ, _+_, _-_, _*_, _/_, _%_, _^_}
+use mathlib.Core.Path.{_≡_, sym, ap, _∙_}
+use Prim.Native.Nat.{_+_, _*_, _/_, _%_, _^_, _<_}
+use native.Mathlib.Nat.{mod-eq-of-lt}
 use native.Mathlib.Omega.{arith}
 use borrow.Author.Needs.{needs}
-use lib.Count.{leadingZeros}
-use Rattle.reduce_laws.proofs.Scales.{Scaled, scaled, left-scaled-back, power-scaled}
+use Rattle.reduce_laws.proofs.Scales.{left-scaled-back, power-scaled}
 use Rattle.reduce_modular.proofs.modular.linear_mul_reduction.Statement.{statement}
 use Rattle.reduce_modular.proofs.modular.linear_mul_reduction.Tie as tie
 
-abbrev z : tie.Start → ℕ
-z c = leadingZeros 64 (c .args .y)
+-- no bit of the scaled divisor passes the word
+kept : (c : tie.After-scale-of) → let n = c .before .args .y * 2 ^ c .scale-of .result in n % 2 ^ 64 ≡ n
+kept c = mod-eq-of-lt (omega (arith, c .scale-of .ensures .2))
 
-scale : (c : tie.Start) → Scaled 64 (c .args .y) (z c)
-scale c = scaled (omega arith) (omega arith) (c .pre .1)
+-- and the test sets the power of two aside
+above : (c : tie.Else1) → 2 ^ 61 < c .before .before .args .y * 2 ^ c .before .scale-of .result
+above c = omega (arith, kept (c .before))
 
 by-words-requires : tie.Need-by-words-requires
-by-words-requires c κs = let s = scale (c .before) in (omega (arith, s .few), omega (arith, s .kept, s .least), s .most, omega (arith, s .grown))
+by-words-requires c κs =
+    let o = c .before .before in
+    let (l, a, b, g) = o .scale-of .ensures in
+    rw (kept o) (above (c .before), b, omega arith, c .start .ensures)
 
 returns-2 : tie.Need-returns-2
 returns-2 c =
-    let s = c .before .before in
-    ap (λ r. r / 2 ^ (z s - 2)) (c .by-words .ensures)
-    ∙ left-scaled-back (s .args .x) (s .args .e) (s .args .y) (z s - 2) (omega arith)
+    let o = c .before .before .before in
+    let a = o .before .args in
+    let s = o .scale-of .result in
+    ap (λ r. r / 2 ^ s) (c .by-words .ensures ∙ ap (λ n. a .x * 2 ^ (a .e + s) % n) (kept o)) ∙ left-scaled-back (a .x) (a .e) (a .y) s (omega arith)
+
+by-power-requires : tie.Need-by-power-requires
+by-power-requires c κs =
+    let o = c .before in
+    power-scaled (o .before .args .y) (o .scale-of .result) 61 (omega arith) (sym (kept o) ∙ c .if1 .taken)
+
+scale-of-requires : tie.Need-scale-of-requires
+scale-of-requires c κs = search needs
+
+cast-n : tie.Need-cast-n
+cast-n c = search needs
+
+shl-n : tie.Need-shl-n
+shl-n c = search needs
 
 returns : tie.Need-returns
 returns c = search needs
 
-by-power-requires : tie.Need-by-power-requires
-by-power-requires c κs = let s = c .before in power-scaled (s .args .y) (z s - 2) 61 (omega arith) (sym (scale s .kept) ∙ c .if1 .taken)
-
-sub-s : tie.Need-sub-s
-sub-s c = scale c .two
-
-cast-if1 : tie.Need-cast-if1
-cast-if1 c = record { fits = omega (arith, scale c .few) }
-
-shl-if1 : tie.Need-shl-if1
-shl-if1 c = omega (arith, scale c .few)
-
 add-by-words : tie.Need-add-by-words
-add-by-words c = record { fits = omega (arith, scale (c .before) .few) }
+add-by-words c = search needs
+
+start-requires : tie.Need-start-requires
+start-requires c κs = let (l, a, b, g) = c .before .scale-of .ensures in (l, above c, b)
 
 cast-result : tie.Need-cast-result
-cast-result c = record { fits = omega (arith, scale (c .before .before) .few) }
+cast-result c = search needs
 
 shr-result : tie.Need-shr-result
-shr-result c = omega (arith, scale (c .before .before) .few)
+shr-result c = search needs
 
 pub linear-mul-reduction-spec : {M : Type 1} → statement M
 linear-mul-reduction-spec =
-    tie.close (tie.spec sub-s cast-if1 shl-if1 by-power-requires returns add-by-words by-words-requires cast-result shr-result returns-2)
+    tie.close (tie.spec scale-of-requires cast-n shl-n by-power-requires returns add-by-words start-requires by-words-requires cast-result shr-result returns-2)
