@@ -1,11 +1,13 @@
 -- fmod by significands and exponents, over the format. Assumes nothing.
 use Prim.Native.Nat.{ℕ, zero, suc, _+_, _-_, _*_, _/_, _%_, _^_, _≤_, _<_}
 use mathlib.Core.Path.{_≡_, refl, sym, ap, ap₂, _∙_}
-use mathlib.Core.Bool.{Bool, true, false, cond}
+use mathlib.Core.Bool.{Bool, true, false, _||_, true≢false}
 use native.Mathlib.Nat.{mod-lt}
 use native.Mathlib.Omega.{arith, both-ways}
+use lib.Dec.{ltb}
 use lib.Pow.{pow-add, pow-pos}
 use lib.Ieee.Nearest.{div-mono}
+use borrow.Author.Tests.{ltb-true, ltb-false}
 use Rattle.algebra.proofs.Products.{order, times, times-le, mul-lt-cancel}
 use Rattle.algebra.proofs.Quotients.{div-mod, div-is}
 use Rattle.algebra.proofs.Powers.{pow-diff}
@@ -20,6 +22,7 @@ use Rattle.fmt_fields.specs.Width.{format, Fits}
 use Rattle.fmt_decode.proofs.Packs.{Apart, apart, pastOne, significand, past-one-small, exactly-below}
 use Rattle.fmt_decode.specs.Rows.{noRemainder}
 use Rattle.fmt_fields.proofs.Numbers.{infinity-some}
+use Rattle.fmod.specs.Division.{settled, past, sig}
 use Rattle.fmt_decode.proofs.Sorts.{no-remainder-none, Remains, remains}
 
 -- a common factor of two numbers is a factor of the remainder
@@ -40,7 +43,8 @@ pub record Reduces (f : Format) (x y ex sx ey sy : ℕ) : Type 0 where
   pub ordered : ey ≤ ex
   pub reach : ex < 2 ^ f .expo
   pub some : 0 < sy
-  pub few : sy < 2 ^ (f .frac + 1)
+  pub few-x : sx < 2 ^ (f .frac + 1)
+  pub few-y : sy < 2 ^ (f .frac + 1)
   pub finishes : (q : ℕ) → q ≡ sx * 2 ^ (ex - ey) % sy → Finishes f x y ey q
 
 module _ (f : Format) (x y : ℕ) where
@@ -114,30 +118,26 @@ module _ (f : Format) (x y : ℕ) where
             ordered = exponents-ordered;
             reach = past-one-small f (magnitude f x) (omega (arith, r .below, inf-below-top f));
             some = divisor-some;
-            few = omega (arith, y-apart .small, pow-add 2 (f .frac) 1);
+            few-x = omega (arith, x-apart .small, pow-add 2 (f .frac) 1);
+            few-y = omega (arith, y-apart .small, pow-add 2 (f .frac) 1);
             finishes = finishes-left;
           }
 
 -- ---- by the tests of the code
-module _ {p e : ℕ} (w : Fits p e) (x y : ℕ) (has : noRemainder (format p e) x y ≡ false) where
-  pub lesser-stays : Pattern (format p e) x → magnitude (format p e) x < magnitude (format p e) y → x ≡ fmodOf (format p e) x y
-  lesser-stays h l = fmod-lesser (format p e) x y (infinity-some w) (remains (format p e) (infinity-some w) x y has) h l
+neither : (a b : Bool) → (a || b) ≡ false → (a ≡ false) × (b ≡ false)
+neither true b e = absurd (true≢false e)
+neither false b e = (refl, e)
 
-  pub reduces : (ex sx ey sy : ℕ) → magnitude (format p e) y ≤ magnitude (format p e) x
-      → ex ≡ pastOne (format p e) (magnitude (format p e) x) → sx ≡ significand (format p e) (magnitude (format p e) x)
-      → ey ≡ pastOne (format p e) (magnitude (format p e) y) → sy ≡ significand (format p e) (magnitude (format p e) y)
-      → Reduces (format p e) x y ex sx ey sy
-  reduces ex sx ey sy g a b c d =
-      rw (a, b, c, d) (fmod-reduces (format p e) x y (infinity-some w) (remains (format p e) (infinity-some w) x y has) g)
+second : (a b : Bool) → a ≡ false → (a || b) ≡ true → b ≡ true
+second a b h e = rw h at e
 
--- ---- a test as a number, which omega reads
-abbrev pub bit : Bool → ℕ
-bit b = cond b 1 0
+module _ {p e : ℕ} (w : Fits p e) (x y : ℕ) where
+  pub lesser-stays : noRemainder (format p e) x y ≡ false → settled (format p e) x y ≡ true → Pattern (format p e) x → x ≡ fmodOf (format p e) x y
+  lesser-stays has s h =
+      fmod-lesser (format p e) x y (infinity-some w) (remains (format p e) (infinity-some w) x y has) h
+      (ltb-true (magnitude (format p e) x) (magnitude (format p e) y) (second (noRemainder (format p e) x y) (ltb (magnitude (format p e) x) (magnitude (format p e) y)) has s))
 
-pub bit-one : (b : Bool) → bit b ≡ 1 → b ≡ true
-bit-one true e = refl
-bit-one false e = absurd (omega arith)
-
-pub bit-zero : (b : Bool) → bit b ≡ 0 → b ≡ false
-bit-zero true e = absurd (omega arith)
-bit-zero false e = refl
+  pub reduces : settled (format p e) x y ≡ false → Reduces (format p e) x y (past (format p e) x) (sig (format p e) x) (past (format p e) y) (sig (format p e) y)
+  reduces s =
+      let (has, l) = neither (noRemainder (format p e) x y) (ltb (magnitude (format p e) x) (magnitude (format p e) y)) s in
+      fmod-reduces (format p e) x y (infinity-some w) (remains (format p e) (infinity-some w) x y has) (ltb-false (magnitude (format p e) x) (magnitude (format p e) y) l)

@@ -5,7 +5,7 @@ use mathlib.Core.Bool.{cond}
 use native.Mathlib.Nat.{two-pow-succ, mod-lt, div-add-mod'}
 use native.Mathlib.Omega.{arith}
 use lib.Dec.{leb}
-use lib.Pow.{pow-pos, pow-mono}
+use lib.Pow.{pow-add, pow-pos, pow-mono}
 use borrow.Author.Tests.{le-leb, lt-leb}
 use Rattle.algebra.proofs.Products.{order, times, times-le, mul-lt-cancel}
 use Rattle.algebra.proofs.Quotients.{mod-is, mod-scale}
@@ -21,14 +21,15 @@ near-is x y p r h =
     let k : r ≡ x = h ∙ ap (λ b. cond b (x % y) x) (lt-leb (2 * y) x l) in
     (omega arith, λ e. ap (λ t. t * 2 ^ e % y) k))
 
+-- no bit of x times 2 ^ e passes a word of w bits, where x has b of them
+pub shifted-fits : (w b x e : ℕ) → x < 2 ^ b → e + b ≤ w → x * 2 ^ e < 2 ^ w
+shifted-fits w b x e l h = omega (arith, times-le (2 ^ e) l, pow-pos e, pow-add 2 b e, pow-mono {i = b + e} {j = w} (omega arith))
+
 -- the quotient is below 2 ^ w for e below w
-pub quotient-fits : (w x e y : ℕ) → x < 2 * y → e < w → x * 2 ^ e < y * 2 ^ w
+quotient-fits : (w x e y : ℕ) → x < 2 * y → e < w → x * 2 ^ e < y * 2 ^ w
 quotient-fits w x e y l h =
     let t : 2 ^ e * 2 ≤ 2 ^ w = omega (arith, two-pow-succ e, pow-mono {i = suc e} {j = w} h) in
     omega (arith, times-le (2 ^ e) l, pow-pos e, times-le y t)
-
-pub quotient-below : (w x e y : ℕ) → x < 2 * y → e < w → x * 2 ^ e / y < 2 ^ w
-quotient-below w x e y l h = mul-lt-cancel (x * 2 ^ e / y) (2 ^ w) y (omega (arith, quotient-fits w x e y l h, div-add-mod' (x * 2 ^ e) y))
 
 -- so the upper word of two is below y
 pub upper-below : (w x e y : ℕ) → x < 2 * y → e < w → x * 2 ^ e / 2 ^ w < y

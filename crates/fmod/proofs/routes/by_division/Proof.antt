@@ -3,8 +3,8 @@ use Prim.Native.Nat.{ℕ, _*_, _^_}
 use native.Mathlib.Omega.{arith}
 use borrow.Author.Needs.{needs}
 use Rattle.fmod.proofs.Reductions.{upper-below, words-leave}
-use Rattle.fmod.proofs.routes.by_division64.Statement.{statement}
-use Rattle.fmod.proofs.routes.by_division64.Tie as tie
+use Rattle.fmod.proofs.routes.by_division.Statement.{statement}
+use Rattle.fmod.proofs.routes.by_division.Tie as tie
 
 -- The facts of `c` have numbers that exceed omega's bound: `c` is shadowed, so that omega reads only the goal and the fact before it.
 returns : tie.Need-returns
@@ -26,5 +26,5 @@ shl-carry-requires c κs = search needs
 shl-t8 : tie.Need-shl-t8
 shl-t8 c = search needs
 
-pub by-division64-spec : {M : Type 1} → statement M
-by-division64-spec = tie.close (tie.spec shl-carry-requires shl-t8 div-requires returns)
+pub by-division-spec : {M : Type 1} → statement M
+by-division-spec = tie.close (tie.spec shl-carry-requires shl-t8 div-requires returns)
