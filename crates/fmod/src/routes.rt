@@ -38,7 +38,7 @@ pub fn reduction64(x: u64, e: u32, y: u64) -> u64
     requires { ⌜ (x < 2 ^ 53) × (0 < y) × (y < 2 ^ 53) × (e < 2 ^ 16) ⌝ }
     ensures { λ r. ⌜ r ≡ x * 2 ^ e % y ⌝ }
 {
-    if e < 11 {
+    if e < 12 {
         return (x << e) % y;
     }
     let near = reduce_below_twice(x, y);
@@ -53,7 +53,7 @@ pub fn reduction32(x: u64, e: u32, y: u64) -> u64
     requires { ⌜ (x < 2 ^ 24) × (0 < y) × (y < 2 ^ 24) × (e < 2 ^ 16) ⌝ }
     ensures { λ r. ⌜ r ≡ x * 2 ^ e % y ⌝ }
 {
-    if e < 40 {
+    if e < 41 {
         return (x << e) % y;
     }
     linear_mul_short(reduce_below_twice(x, y), e, y)
