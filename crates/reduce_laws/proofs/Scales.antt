@@ -2,7 +2,6 @@
 use Prim.Native.Nat.{ℕ, _+_, _-_, _*_, _/_, _%_, _^_, _≤_, _<_}
 use mathlib.Core.Path.{_≡_, sym, ap, _∙_}
 use native.Mathlib.Omega.{arith}
-use native.Mathlib.Nat.{mod-eq-of-lt}
 use lib.Bits.{bitAnd, and-mask}
 use lib.Count.{leadingZeros}
 use lib.Pow.{pow-add, pow-pos, pow-mono}
@@ -12,13 +11,12 @@ use Rattle.algebra.proofs.Quotients.{div-mod, div-is, mod-is}
 use Rattle.algebra.proofs.Leading.{Fills, leading-fills}
 use Rattle.reduce_laws.specs.Reducer.{Power}
 
--- y has z leading zeros: scaled by all but two of them it has two, and loses no bit
+-- y has z leading zeros: scaled by all but two of them it has two
 pub record Scaled (w y z : ℕ) : Type 0 where
   pub two : 2 ≤ z
   pub few : z < w
   pub least : 2 ^ (w - 3) ≤ y * 2 ^ (z - 2)
   pub most : y * 2 ^ (z - 2) < 2 ^ (w - 2)
-  pub kept : y * 2 ^ (z - 2) % 2 ^ w ≡ y * 2 ^ (z - 2)
   pub grown : y ≤ y * 2 ^ (z - 2)
 
 pub scaled : {w y : ℕ} → 3 ≤ w → 0 < y → y < 2 ^ (w - 2) → Scaled w y (leadingZeros w y)
@@ -28,7 +26,6 @@ scaled {w} {y} l p h =
       few = f .fewer;
       least = omega (arith, parts, f .least, eighth);
       most = omega (arith, parts, f .most, quarter);
-      kept = mod-eq-of-lt (omega (arith, parts, f .most));
       grown = omega (arith, times-le y (pow-pos (z - 2)));
     }
   where
