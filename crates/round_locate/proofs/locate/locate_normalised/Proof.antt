@@ -1,0 +1,124 @@
+-- The four branches are the four cases of an alignment (round_laws: Alignments), and a format has at least four exponent fields (fmt_fields: Widths). Assumes nothing.
+use Prim.Native.Nat.{ℕ, _+_, _-_, _*_, _/_, _%_, _^_, _<_}
+use mathlib.Core.Path.{_≡_, _∙_}
+use native.Mathlib.Omega.{arith}
+use borrow.Author.Needs.{needs}
+use Rattle.fmt_fields.specs.Width.{format, Fits}
+use Rattle.fmt_fields.proofs.Widths.{four-fields, fields-small, field-room}
+use Rattle.round_laws.specs.Location.{below, location, part}
+use Rattle.round_laws.specs.Aligned.{filledAt, Stands}
+use Rattle.round_laws.proofs.Alignments.{stands-nothing, stands-low, stands-over, stands-normal}
+use Rattle.round_locate.proofs.locate.locate_normalised.Statement.{statement}
+use Rattle.round_locate.proofs.locate.locate_normalised.Tie as tie
+
+-- where one stands, its bits fit, and what is shifted out is located
+module _ {p e s at t up k : ℕ} (w : Fits p e) (i : Stands p e s at t up k) where
+  room : up * 2 ^ p + t / 2 ^ k < 2 ^ 63
+  room = field-room w up (t / 2 ^ k) (i .fields) (i .kept)
+
+  lies : {m l : ℕ} → (m ≡ up * 2 ^ p + t / 2 ^ k) × (l ≡ part (t % 2 ^ k) (2 ^ k)) → (m ≡ below (format p e) (filledAt s at)) × (l ≡ location (format p e) (filledAt s at))
+  lies (a, b) = (a ∙ i .lower, b ∙ i .part-is)
+
+sub-extra : tie.Need-sub-extra
+sub-extra c = search needs
+
+add-wrapping-sub-u32 : tie.Need-add-wrapping-sub-u32
+add-wrapping-sub-u32 c = search needs
+
+wrapping-sub-u32-requires : tie.Need-wrapping-sub-u32-requires
+wrapping-sub-u32-requires c κs = search needs
+
+cast-up : tie.Need-cast-up
+cast-up c = search needs
+
+pow-requires : tie.Need-pow-requires
+pow-requires c κs = search needs
+
+sub-last : tie.Need-sub-last
+sub-last c = omega (arith, c .pow .ensures, four-fields (c .before .before .pre .0))
+
+-- the exponent field of a normal number
+normal : (c : tie.Then1) → let g = c .before .before .before .args in Stands (g .frac) (g .expo) (g .sig) (g .at) (g .sig) (c .before .before .wrapping-sub-u32 .result) (63 - g .frac)
+normal c =
+    let s = c .before .before .before in
+    let w = s .pre .0 in
+    stands-normal w (s .args .sig) (s .args .at) (s .pre .1) (omega arith) (c .before .before .wrapping-sub-u32 .result)
+    (omega (arith, c .before .pow .ensures, fields-small w, c .before .before .wrapping-sub-u32 .ensures))
+    (omega (arith, c .before .pow .ensures, four-fields w))
+
+over : (c : tie.Then2) → let g = c .before .before .before .before .args in Stands (g .frac) (g .expo) (g .sig) (g .at) (2 ^ 64 - 1) (2 ^ g .expo - 3) (63 - g .frac)
+over c =
+    let k = c .before .before in
+    let s = k .before .before in
+    stands-over (s .pre .0) (s .args .sig) (s .args .at) (s .pre .1) (omega arith) (s .args .at + (63 - s .args .frac) - 2097152) (omega arith)
+    (omega (arith, k .pow .ensures, four-fields (s .pre .0), k .before .wrapping-sub-u32 .ensures))
+
+shift-out-under-requires : tie.Need-shift-out-under-requires
+shift-out-under-requires c κs = let w = c .before .before .before .pre .0 in let i = normal c in (omega (arith, w .word, w .fair .expo-two), i .least, i .most, room w i)
+
+returns : tie.Need-returns
+returns c = lies (c .before .before .before .before .pre .0) (normal (c .before)) (c .shift-out-under .ensures)
+
+add-if2 : tie.Need-add-if2
+add-if2 c = search needs
+
+shift-out-under-requires-2 : tie.Need-shift-out-under-requires-2
+shift-out-under-requires-2 c κs =
+    let w = c .before .before .before .before .pre .0 in
+    let i = over c in
+    rw (c .before .before .pow .ensures) (omega (arith, w .word, w .fair .expo-two), i .least, i .most, room w i)
+
+returns-2 : tie.Need-returns-2
+returns-2 c =
+    let k = c .before .before .before in
+    lies (k .before .before .pre .0) (over (c .before)) (rw (k .pow .ensures) at (c .shift-out-under2 .ensures))
+
+add-if3 : tie.Need-add-if3
+add-if3 c = search needs
+
+shift-out-under-requires-3 : tie.Need-shift-out-under-requires-3
+shift-out-under-requires-3 c κs = search needs
+
+returns-3 : tie.Need-returns-3
+returns-3 c =
+    let s = c .before .before .before .before .before .before in
+    lies (s .pre .0) (stands-nothing (s .pre .0) (s .args .sig) (s .args .at) (s .pre .1) (omega arith) (omega arith)) (c .shift-out-under3 .ensures)
+
+sub-shift-out-under : tie.Need-sub-shift-out-under
+sub-shift-out-under c = search needs
+
+low : (c : tie.Else3) → let g = c .before .before .before .before .before .args in Stands (g .frac) (g .expo) (g .sig) (g .at) (g .sig) 0 (2 ^ 21 - g .at)
+low c =
+    let s = c .before .before .before .before .before in
+    stands-low (s .pre .0) (s .args .sig) (s .args .at) (s .pre .1) (omega arith) (omega arith) (omega arith)
+
+shift-out-under-requires-4 : tie.Need-shift-out-under-requires-4
+shift-out-under-requires-4 c κs =
+    let w = c .before .before .before .before .before .pre .0 in
+    let i = low c in
+    (omega (arith, w .word, w .fair .expo-two), i .least, i .most, room w i)
+
+returns-4 : tie.Need-returns-4
+returns-4 c = lies (c .before .before .before .before .before .before .pre .0) (low (c .before)) (c .shift-out-under4 .ensures)
+
+pub locate-normalised-spec : {M : Type 1} → statement M
+locate-normalised-spec =
+    tie.close
+    (tie.spec
+    sub-extra
+    add-wrapping-sub-u32
+    wrapping-sub-u32-requires
+    cast-up
+    pow-requires
+    sub-last
+    shift-out-under-requires
+    returns
+    add-if2
+    shift-out-under-requires-2
+    returns-2
+    add-if3
+    shift-out-under-requires-3
+    returns-3
+    sub-shift-out-under
+    shift-out-under-requires-4
+    returns-4)
