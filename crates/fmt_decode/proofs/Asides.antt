@@ -1,15 +1,17 @@
 -- Zeros, infinities and NaNs by magnitude, and the one comparison that finds them. Assumes nothing.
-use Prim.Native.Nat.{ℕ, zero, suc, _+_, _-_, _%_, _^_, _≤_, _<_}
+use Prim.Native.Nat.{ℕ, zero, suc, _-_, _^_, _≤_, _<_}
 use mathlib.Core.Path.{_≡_, refl, sym, ap, _∙_}
 use mathlib.Core.Bool.{true, false, true≢false}
 use native.Mathlib.Omega.{arith}
-use lib.Dec.{leb}
-use borrow.Author.Tests.{le-leb, lt-leb}
-use Rattle.algebra.proofs.Products.{order}
-use Rattle.ieee.specs.Format.{Format, top, inf, units}
-use Rattle.ieee.specs.Pattern.{magnitude, finite}
+use lib.Dec.{eqb}
+use lib.Pow.{pow-pos}
+use borrow.Author.Tests.{ne-eqb}
+use Rattle.algebra.proofs.Products.{order, times, times-le, mul-lt-cancel}
+use Rattle.ieee.specs.Format.{Format, inf, units}
+use Rattle.ieee.specs.Pattern.{magnitude, field, fraction, finite}
 use Rattle.ieee.proofs.Units.{units-zero, units-lt}
-use Rattle.ieee.proofs.Patterns.{inf-below-top, kind-nan, kind-infinite, kind-finite}
+use Rattle.ieee.proofs.Patterns.{kind-nan, kind-infinite, kind-finite}
+use Rattle.ieee.proofs.Fields.{magnitude-fields, field-finite}
 use Rattle.fmt_decode.specs.Norm.{asideBy, aside}
 
 module _ (f : Format) (x : ℕ) where
@@ -47,9 +49,26 @@ module _ (f : Format) (x : ℕ) where
       order (inf f) (magnitude f x) high
       (λ l. order (magnitude f x) 0 (λ h. none (omega arith)) (λ h. absurd (true≢false (sym e ∙ aside-not h l))))
 
-  -- in words: w is the magnitude less one, and a zero less one is the largest word
-  pub aside-test : (i w m : ℕ) → i ≡ inf f → 0 < i → m ≡ magnitude f x → (w + 1) % 2 ^ 64 ≡ m → w < 2 ^ 64 → top f < 2 ^ 64 → leb (i - 1) w ≡ aside f x
-  aside-test i w m a p b e l g =
-      order (i - 1) w
-      (λ q. le-leb (i - 1) w q ∙ sym (order (magnitude f x) 0 (λ h. aside-zero (omega arith) (omega arith)) (λ h. aside-high (omega arith))))
-      (λ q. lt-leb (i - 1) w q ∙ sym (aside-not (omega (arith, inf-below-top f)) (omega (arith, inf-below-top f))))
+  -- by the exponent field and the fraction
+  pub field-some : 0 < field f x → 0 < magnitude f x
+  field-some l = omega (arith, magnitude-fields f x, times-le (2 ^ f .frac) l, pow-pos (f .frac))
+
+  pub fraction-alone : field f x ≡ 0 → fraction f x ≡ magnitude f x
+  fraction-alone e = omega (arith, magnitude-fields f x, times (2 ^ f .frac) e)
+
+  pub field-last : 2 ^ f .expo - 1 ≤ field f x → inf f ≤ magnitude f x
+  field-last l = omega (arith, magnitude-fields f x, times-le (2 ^ f .frac) l)
+
+  pub aside-normal : 0 < field f x → field f x < 2 ^ f .expo - 1 → false ≡ aside f x
+  aside-normal p l = sym (aside-not (field-some p) (field-finite f x l))
+
+  pub aside-subnormal : 0 < inf f → field f x ≡ 0 → eqb (fraction f x) 0 ≡ aside f x
+  aside-subnormal some e =
+      let m = fraction-alone e in
+      let small : magnitude f x < inf f = field-finite f x (omega (arith, e, fields-some)) in
+      order 1 (fraction f x)
+      (λ l. ne-eqb (fraction f x) 0 (omega arith) ∙ sym (aside-not (omega (arith, m)) small))
+      (λ l. let z : fraction f x ≡ 0 = omega arith in ap (λ n. eqb n 0) z ∙ sym (aside-zero some (omega (arith, m))))
+    where
+      fields-some : 0 < 2 ^ f .expo - 1
+      fields-some = mul-lt-cancel 0 (2 ^ f .expo - 1) (2 ^ f .frac) (omega (arith, some))

@@ -14,8 +14,7 @@ ghost use Rattle.fmt_decode.specs.Significand.{sigOf};
 use fmt_fields::exponent_field;
 use fmt_fields::fraction_field;
 use fmt_fields::is_negative;
-use fmt_fields::pattern::infinity;
-use fmt_fields::pattern::magnitude_of;
+use fmt_fields::is_normal;
 use word_bits::pow;
 
 // sig times 2^exp, negative where neg is set. The leading bit of sig is bit frac.
@@ -25,14 +24,18 @@ pub struct Norm {
     pub neg: bool,
 }
 
-// Whether x is a zero, an infinity or a NaN. A zero less one wraps to a word past infinity.
+// Whether x is a zero, an infinity or a NaN. Most operands are normal numbers, so that is asked first.
 pub fn is_zero_nan_inf(frac: u32, expo: u32, x: u64) -> bool
     requires { ⌜ Fits frac expo ⌝ }
     ensures { λ r. ⌜ r ≡ aside (format frac expo) x ⌝ }
 {
-    let inf = infinity(frac, expo);
-    let size = magnitude_of(frac, expo, x);
-    std::num::wrapping_sub_u64(size, 1) >= inf - 1
+    if is_normal(frac, expo, x) {
+        return false;
+    }
+    if exponent_field(frac, expo, x) > 0 {
+        return true;
+    }
+    fraction_field(frac, expo, x) == 0
 }
 
 // How far to shift a fraction left until its leading bit is bit frac: its leading zeros in the word, less those above that bit.

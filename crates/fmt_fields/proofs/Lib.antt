@@ -1,3 +1,4 @@
 pub mod Decoded
+pub mod Normals
 pub mod Numbers
 pub mod Widths

@@ -3,6 +3,7 @@ ghost use mathlib.Core.Path.{_≡_};
 ghost use Prim.Native.Nat.{_+_, _<_, _^_};
 ghost use Rattle.ieee.specs.Pattern.{minus, field, fraction, signed};
 ghost use Rattle.fmt_fields.specs.Width.{format, Fits};
+ghost use Rattle.fmt_fields.specs.Normal.{normal};
 use word_bits::pow;
 
 pub mod env;
@@ -27,6 +28,15 @@ pub fn is_negative(frac: u32, expo: u32, x: u64) -> bool
     ensures { λ r. ⌜ r ≡ minus (format frac expo) x ⌝ }
 {
     x >= pow(frac + expo)
+}
+
+// Whether x is a normal number. Less one, an exponent field of 0 wraps past all others.
+pub fn is_normal(frac: u32, expo: u32, x: u64) -> bool
+    requires { ⌜ Fits frac expo ⌝ }
+    ensures { λ r. ⌜ r ≡ normal (format frac expo) x ⌝ }
+{
+    let last = pow(expo) - 2;
+    std::num::wrapping_sub_u64(exponent_field(frac, expo, x), 1) < last
 }
 
 // The pattern of a sign and a magnitude.

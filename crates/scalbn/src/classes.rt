@@ -1,9 +1,10 @@
 // A number times 2^n, rounded once, by its class.
 ghost use mathlib.Core.Path.{_≡_};
+ghost use mathlib.Core.Bool.{true};
 ghost use Rattle.ieee.specs.Pattern.{Pattern, field};
 ghost use Rattle.ieee.specs.Scalbn.{scalbnOf};
 ghost use Rattle.fmt_fields.specs.Width.{format, Fits};
-ghost use Rattle.scalbn_laws.specs.Normal.{Normal};
+ghost use Rattle.fmt_fields.specs.Normal.{normal};
 use crate::moves::overflow;
 use crate::moves::round_below_unit;
 use crate::moves::with_field;
@@ -19,7 +20,7 @@ use word_bits::pow;
 
 // A normal x times 2^n: the exponent field moves, or bits of the significand drop below the smallest unit, or the value overflows.
 pub fn scale_normal(frac: u32, expo: u32, x: u64, n: i32) -> u64
-    requires { ⌜ Fits frac expo × Pattern (format frac expo) x × Normal (format frac expo) x ⌝ }
+    requires { ⌜ Fits frac expo × Pattern (format frac expo) x × (normal (format frac expo) x ≡ true) ⌝ }
     ensures { λ r. ⌜ r ≡ scalbnOf (format frac expo) x n ⌝ }
 {
     let to = move_field(exponent_field(frac, expo, x), n);

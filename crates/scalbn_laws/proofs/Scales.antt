@@ -33,7 +33,9 @@ use Rattle.round_laws.proofs.Parts.{all-gone}
 use Rattle.fmt_fields.proofs.Widths.{fields-small}
 use Rattle.fmt_fields.proofs.Decoded.{fields-normal, units-subnormal, units-normal}
 use Rattle.fmt_exponents.specs.Field.{above, depthOf}
-use Rattle.scalbn_laws.specs.Normal.{Normal, fullOf, movedTo}
+use Rattle.scalbn_laws.specs.Normal.{fullOf, movedTo}
+use Rattle.fmt_fields.specs.Normal.{normal}
+use Rattle.fmt_fields.proofs.Normals.{normal-between}
 use Rattle.fmt_exponents.proofs.Exponents.{clamp-mag}
 
 module _ (f : Format) (x : ℕ) (n : ℤ) where
@@ -94,16 +96,19 @@ scalbn-subnormal f g x n h =
     sym (scalbn-finite f x n (omega arith) ∙ ap (λ u. answer f ties-to-even (minus f x) (scaled (minus f x) u (clamp (reach f) n))) (units-subnormal f x h))
 
 -- ---- normal numbers: the field moves, or the value overflows, or it drops below the least normal number
-module _ (f : Format) (g : Fair f) (x : ℕ) (n : ℤ) (i : Normal f x) where
+module _ (f : Format) (g : Fair f) (x : ℕ) (n : ℤ) (h : normal f x ≡ true) where
+  i : (0 < field f x) × (field f x < 2 ^ f .expo - 1)
+  i = normal-between f x h
+
   pub scalbn-moved : (t : ℕ) → Pattern f x → movedTo f x n ≡ pos t → 0 < t → t < 2 ^ f .expo - 1 → x - field f x * 2 ^ f .frac + t * 2 ^ f .frac ≡ scalbnOf f x n
-  scalbn-moved t p e q h = sym (scalbn-unclamped f g x n (i .most) ∙ moved-held f x n t (i .least) q h (sym e) p)
+  scalbn-moved t p e q h = sym (scalbn-unclamped f g x n (i .1) ∙ moved-held f x n t (i .0) q h (sym e) p)
 
   -- the answer by the location of the significand
   location-answer : (m p : ℕ) → Lies f (stretched (fullOf f x) (n +ℤ pos (field f x - 1))) m p → scalbnOf f x n ≡ signed f (minus f x) (chosen even m p)
   location-answer m p (b, q) =
       let s = minus f x in
-      scalbn-unclamped f g x n (i .most)
-      ∙ ap (λ u. answer f ties-to-even s (scaled s u n)) (units-normal f x (i .least))
+      scalbn-unclamped f g x n (i .1)
+      ∙ ap (λ u. answer f ties-to-even s (scaled s u n)) (units-normal f x (i .0))
       ∙ scaled-moves f ties-to-even s (fullOf f x) (field f x - 1) n
       ∙ answer-chosen f g ties-to-even s (fullOf f x) (n +ℤ pos (field f x - 1))
       ∙ (λ k. signed f s (chosen even (b k) (q k)))
@@ -111,7 +116,7 @@ module _ (f : Format) (g : Fair f) (x : ℕ) (n : ℤ) (i : Normal f x) where
   -- the exponent of the significand
   less-one : (z : ℤ) → up z + dn (movedTo f x n) + 1 ≡ dn z + up (movedTo f x n) → n +ℤ pos (field f x - 1) ≡ z
   less-one z e =
-      eqZ (n +ℤ pos (field f x - 1)) z (omega (arith, addZ n (pos (field f x)), addZ n (pos (field f x - 1)), i .least))
+      eqZ (n +ℤ pos (field f x - 1)) z (omega (arith, addZ n (pos (field f x)), addZ n (pos (field f x - 1)), i .0))
 
   pub scalbn-over : (t : ℕ) → movedTo f x n ≡ pos t → 2 ^ f .expo - 1 ≤ t → signed f (minus f x) (chosen even (inf f - 1) 3) ≡ scalbnOf f x n
   scalbn-over t e k =
