@@ -1,22 +1,26 @@
 -- The rows of fma, by magnitude. Assumes nothing.
-use Prim.Native.Nat.{ℕ, zero, suc, _*_, _≤_, _<_}
+use Prim.Native.Nat.{ℕ, zero, suc, _-_, _*_, _^_, _≤_, _<_}
 use mathlib.Core.Path.{_≡_, refl, sym, ap, _∙_}
 use mathlib.Core.Logic.{_⊎_, inl, inr, ⊎-elim}
 use mathlib.Core.Bool.{Bool, true, false, true≢false, cond}
 use native.Mathlib.Omega.{arith}
+use borrow.Author.Tests.{leb-true, leb-false, le-leb, lt-leb, eq-eqb, ne-eqb}
+use lib.Dec.{leb, eqb}
 use Rattle.algebra.proofs.Products.{order, times}
 use Rattle.ieee.specs.Format.{Format, inf, units, canonical}
-use Rattle.ieee.specs.Pattern.{Pattern, magnitude, minus, signed, unlike, Kind, nan, infinite, finite, kind}
+use Rattle.ieee.specs.Pattern.{Pattern, magnitude, field, minus, signed, unlike, Kind, nan, infinite, finite, kind}
 use Rattle.ieee.specs.Round.{ties-to-even}
 use Rattle.ieee.specs.Fma.{times as times-kinds, sumOf, zeroSum, plusBy, fmaIn, fmaOf, InfiniteProduct, of-both, of-first, of-second, productSign, against}
 use Rattle.ieee.specs.FmaRows.{FmaRows}
 use Rattle.ieee.proofs.Units.{units-zero, units-lt}
 use Rattle.ieee.proofs.Patterns.{inf-below-top, canonical-pattern, pattern-signed, kind-nan, kind-infinite, kind-finite, signed-is}
+use Rattle.ieee.proofs.Fields.{field-small, field-finite}
 use Rattle.ieee.proofs.Attributes.{answer-pattern}
 use Rattle.ieee.proofs.Fmas.{fma-rows}
 use Rattle.fmt_fields.specs.Width.{format, Fits}
-use Rattle.fmt_decode.proofs.Asides.{set-aside}
-use Rattle.fma.specs.Special.{Special}
+use Rattle.fmt_decode.specs.Norm.{aside}
+use Rattle.fmt_decode.proofs.Asides.{set-aside, field-last}
+use Rattle.fma.specs.Special.{special}
 
 -- ---- kinds, by magnitude
 zero-kind : (f : Format) (x : ℕ) → 0 < inf f → magnitude f x ≡ 0 → kind f x ≡ finite 0
@@ -123,11 +127,30 @@ module _ (f : Format) (x y z : ℕ) where
         (λ q. let e : magnitude f z ≡ 0 = omega arith in same-zeros e (a e))
         (λ q. let (w, e) = some-kind f z q k in sym (rows .zero-product u v w b (kind-finite f x l) (kind-finite f y h) no-product e) ∙ of-in)
 
+  -- the last exponent field is that of infinities and NaNs
+  pub last-is-high : eqb (field f z) (2 ^ f .expo - 1) ≡ leb (inf f) (magnitude f z)
+  last-is-high =
+      order (2 ^ f .expo - 1) (field f z)
+      (λ l. let e : field f z ≡ 2 ^ f .expo - 1 = omega (arith, field-small f z) in eq-eqb (field f z) (2 ^ f .expo - 1) e ∙ sym (le-leb (inf f) (magnitude f z) (field-last f z l)))
+      (λ l. ne-eqb (field f z) (2 ^ f .expo - 1) (omega arith) ∙ sym (lt-leb (inf f) (magnitude f z) (field-finite f z l)))
+
   -- operands that are special, with neither an infinity nor a NaN, have a zero product
-  pub then-zero : Special f x y z → magnitude f x < inf f → magnitude f y < inf f → magnitude f z < inf f → (magnitude f x ≡ 0) ⊎ (magnitude f y ≡ 0)
-  then-zero s l h k =
-      ⊎-elim (λ e. set-aside f x e (λ q. inl q) (λ q. absurd (omega arith)))
-      (λ r. ⊎-elim (λ e. set-aside f y e (λ q. inr q) (λ q. absurd (omega arith))) (λ q. absurd (omega arith)) r) s
+  pub then-zero : special f x y z ≡ true → magnitude f x < inf f → magnitude f y < inf f → magnitude f z < inf f → (magnitude f x ≡ 0) ⊎ (magnitude f y ≡ 0)
+  then-zero s l h k = by (aside f x) (aside f y) refl refl s
+    where
+      by : (a b : Bool) → aside f x ≡ a → aside f y ≡ b → cond a true (cond b true (leb (inf f) (magnitude f z))) ≡ true → (magnitude f x ≡ 0) ⊎ (magnitude f y ≡ 0)
+      by true b i j e = set-aside f x i (λ q. inl q) (λ q. absurd (omega arith))
+      by false true i j e = set-aside f y j (λ q. inr q) (λ q. absurd (omega arith))
+      by false false i j e = absurd (omega (arith, leb-true (inf f) (magnitude f z) e))
+
+  -- the others are a product of nonzero numbers, and a number
+  pub not-special : special f x y z ≡ false → (aside f x ≡ false) × (aside f y ≡ false) × (magnitude f z < inf f)
+  not-special s = by (aside f x) (aside f y) refl refl s
+    where
+      by : (a b : Bool) → aside f x ≡ a → aside f y ≡ b → cond a true (cond b true (leb (inf f) (magnitude f z))) ≡ false → (aside f x ≡ false) × (aside f y ≡ false) × (magnitude f z < inf f)
+      by true b i j e = absurd (true≢false e)
+      by false true i j e = absurd (true≢false e)
+      by false false i j e = (i, j, omega (arith, leb-false (inf f) (magnitude f z) e))
 
 -- ---- every answer is a pattern
 module _ {p e : ℕ} (w : Fits p e) where

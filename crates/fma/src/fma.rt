@@ -3,29 +3,25 @@ ghost use mathlib.Core.Path.{_≡_};
 ghost use Rattle.ieee.specs.Format.{b64, b32};
 ghost use Rattle.ieee.specs.Fma.{fmaOf};
 use crate::special::fma_special;
-use fma_sum::sum32::fma_numbers32;
-use fma_sum::sum32::product_alone32;
-use fma_sum::sum64::fma_numbers64;
-use fma_sum::sum64::product_alone64;
-use fmt_decode::norm::is_zero_nan_inf;
+use crate::special::is_special;
+use fma_sum::sum::add_third;
+use fma_sum::sum::product_of;
+use fma_sum::sum::round_sum;
+use fma_sum::sum_wide::add_third_wide;
+use fma_sum::sum_wide::product_of_wide;
+use fma_sum::sum_wide::round_sum_wide;
+use fma_sum::third::third_of;
 
-// Nonzero numbers take the sum. A zero z leaves only the product; everything else has a row of its own.
+// Numbers take the sum; everything else, and a zero product, has a row of its own.
 pub fn fma64(x: u64, y: u64, z: u64) -> u64
     ensures { λ r. ⌜ r ≡ fmaOf b64 x y z ⌝ }
 {
-    if is_zero_nan_inf(52, 11, x) {
+    if is_special(52, 11, x, y, z) {
         return fma_special(52, 11, x, y, z);
     }
-    if is_zero_nan_inf(52, 11, y) {
-        return fma_special(52, 11, x, y, z);
-    }
-    if z % 0x8000000000000000 == 0 {
-        return product_alone64(x, y, z);
-    }
-    if is_zero_nan_inf(52, 11, z) {
-        return fma_special(52, 11, x, y, z);
-    }
-    fma_numbers64(x, y, z)
+    let p = product_of_wide(52, 11, x, y);
+    let s = add_third_wide(p, third_of(52, 11, z));
+    round_sum_wide(52, 11, s)
 }
 
 pub fn fma32(x: u32, y: u32, z: u32) -> u32
@@ -34,17 +30,10 @@ pub fn fma32(x: u32, y: u32, z: u32) -> u32
     let a = x as u64;
     let b = y as u64;
     let c = z as u64;
-    if is_zero_nan_inf(23, 8, a) {
+    if is_special(23, 8, a, b, c) {
         return fma_special(23, 8, a, b, c) as u32;
     }
-    if is_zero_nan_inf(23, 8, b) {
-        return fma_special(23, 8, a, b, c) as u32;
-    }
-    if c % 0x80000000 == 0 {
-        return product_alone32(a, b, c);
-    }
-    if is_zero_nan_inf(23, 8, c) {
-        return fma_special(23, 8, a, b, c) as u32;
-    }
-    fma_numbers32(a, b, c)
+    let p = product_of(23, 8, a, b);
+    let s = add_third(p, third_of(23, 8, c));
+    round_sum(23, 8, s) as u32
 }

@@ -1,16 +1,20 @@
 // The rows of fma: the answers where an operand is an infinity or a NaN, or the product is a zero.
 ghost use mathlib.Core.Path.{_≡_};
+ghost use mathlib.Core.Bool.{true};
 ghost use mathlib.Core.Logic.{_⊎_};
 ghost use Rattle.ieee.specs.Pattern.{Pattern};
 ghost use Rattle.ieee.specs.Fma.{fmaOf};
 ghost use Rattle.fmt_fields.specs.Width.{format, Fits};
 ghost use Rattle.fmt_decode.specs.Classes.{Zero, Finite, Infinite, NotNan};
-ghost use Rattle.fma.specs.Special.{Special};
+ghost use Rattle.fma.specs.Special.{special};
+use fmt_decode::norm::is_zero_nan_inf;
+use fmt_fields::exponent_field;
 use fmt_fields::is_negative;
 use fmt_fields::pattern::infinity;
 use fmt_fields::pattern::magnitude_of;
 use fmt_fields::pattern::nan;
 use fmt_fields::with_sign;
+use word_bits::pow;
 
 // x or y is infinite: its product with a zero is invalid, and so is its sum with an infinite z of the other sign.
 pub fn of_infinite_product(frac: u32, expo: u32, x: u64, y: u64, z: u64) -> u64
@@ -54,9 +58,23 @@ pub fn of_zero_product(frac: u32, expo: u32, x: u64, y: u64, z: u64) -> u64
     0
 }
 
+// Whether the operands have a row of their own.
+pub fn is_special(frac: u32, expo: u32, x: u64, y: u64, z: u64) -> bool
+    requires { ⌜ Fits frac expo ⌝ }
+    ensures { λ r. ⌜ r ≡ special (format frac expo) x y z ⌝ }
+{
+    if is_zero_nan_inf(frac, expo, x) {
+        return true;
+    }
+    if is_zero_nan_inf(frac, expo, y) {
+        return true;
+    }
+    exponent_field(frac, expo, z) == pow(expo) - 1
+}
+
 // A NaN anywhere, an infinite product, an infinite z; otherwise the product is a zero.
 pub fn fma_special(frac: u32, expo: u32, x: u64, y: u64, z: u64) -> u64
-    requires { ⌜ Fits frac expo × Pattern (format frac expo) z × Special (format frac expo) x y z ⌝ }
+    requires { ⌜ Fits frac expo × Pattern (format frac expo) z × (special (format frac expo) x y z ≡ true) ⌝ }
     ensures { λ r. ⌜ r ≡ fmaOf (format frac expo) x y z ⌝ }
 {
     let inf = infinity(frac, expo);

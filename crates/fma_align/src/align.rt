@@ -1,105 +1,98 @@
-// Aligns a product p and a third number q to one exponent, where q is d bits above p.
+// Aligns a product p with the exponent e and a third number q with the exponent g to one exponent.
 ghost use mathlib.Core.Path.{_≡_};
-ghost use Prim.Native.Nat.{_≤_, _<_, _^_};
-ghost use lib.IntN.{negℤ};
-ghost use lib.Signed.{mag};
+ghost use mathlib.Core.Bool.{cond};
+ghost use Prim.Native.Nat.{_<_, _^_};
+ghost use lib.IntN.{_-ℤ_};
+ghost use lib.Signed.{mag, ltZ};
 ghost use Rattle.fmt_exponents.specs.Field.{above};
 ghost use Rattle.word_wide.specs.Value.{value};
 ghost use Rattle.fma_laws.specs.Aligned.{productAt, thirdAt, downBy};
+use crate::product::subtract_exponents;
 use round_wide::sticky::shr_sticky;
 use round_wide::sticky::shr_sticky_wide;
 use word_wide::Wide;
 
-// A signed number as its positive part and its negative part.
+// How far one exponent is below another, and how far above. One of the two is 0.
 pub struct Sides {
-    pub above: u32,
     pub below: u32,
+    pub above: u32,
 }
 
-pub struct Aligned64 {
+pub struct AlignedWide {
     pub product: Wide,
     pub third: Wide,
     pub down: u32,
 }
 
-pub struct Aligned32 {
+pub struct Aligned {
     pub product: u64,
     pub third: u64,
     pub down: u32,
 }
 
-pub fn sides_of(d: i32) -> Sides
-    requires { ⌜ mag d ≤ 2 ^ 20 ⌝ }
-    ensures { λ r. ⌜ (r .above ≡ above d) × (r .below ≡ above (negℤ d)) ⌝ }
+// The larger of two exponents.
+fn larger(a: i32, b: i32) -> i32
+    ensures { λ r. ⌜ r ≡ cond (ltZ a b) b a ⌝ }
 {
-    if d < 0 {
-        return Sides {
-            above: 0,
-            below: (-d) as u32,
-        };
-    }
+    if a < b { b } else { a }
+}
+
+// How far a is below b, and how far above.
+pub fn sides_of(a: i32, b: i32) -> Sides
+    requires { ⌜ (mag a < 2 ^ 19) × (mag b < 2 ^ 19) ⌝ }
+    ensures { λ r. ⌜ (r .below ≡ above (b -ℤ a)) × (r .above ≡ above (a -ℤ b)) ⌝ }
+{
+    let top = larger(a, b);
     Sides {
-        above: d as u32,
-        below: 0,
+        below: (top - a) as u32,
+        above: (top - b) as u32,
     }
 }
 
 // Two words have room for q shifted left by 64 bits: it is then the high word.
-pub fn align64(p: Wide, q: u64, d: i32) -> Aligned64
-    requires { ⌜ mag d ≤ 2 ^ 20 ⌝ }
-    ensures { λ r. ⌜ (value (r .product) ≡ productAt 64 (value p) d) × (value (r .third) ≡ thirdAt 64 q d) × (r .down ≡ downBy 64 d) ⌝ }
+pub fn align_wide(p: Wide, q: u64, e: i32, g: i32) -> AlignedWide
+    requires { ⌜ (mag e < 2 ^ 18) × (mag g < 2 ^ 18) ⌝ }
+    ensures { λ r. ⌜ (value (r .product) ≡ productAt 64 (value p) (g -ℤ e))
+        × (value (r .third) ≡ thirdAt 64 q (g -ℤ e))
+        × (r .down ≡ downBy 64 (g -ℤ e)) ⌝ }
 {
-    let at = sides_of(d);
-    if 0 < at.below {
-        return Aligned64 {
+    let at = sides_of(e, g);
+    if 0 < at.above {
+        return AlignedWide {
             product: p,
             third: Wide {
                 hi: 0,
-                lo: shr_sticky(q, at.below),
+                lo: shr_sticky(q, at.above),
             },
             down: 0,
         };
     }
-    if at.above < 64 {
-        return Aligned64 {
+    if at.below < 64 {
+        return AlignedWide {
             product: p,
             third: Wide {
-                hi: word_bits::shl_carry(q, at.above),
-                lo: q << at.above,
+                hi: word_bits::shl_carry(q, at.below),
+                lo: q << at.below,
             },
             down: 0,
         };
     }
-    Aligned64 {
-        product: shr_sticky_wide(p, at.above - 64),
+    AlignedWide {
+        product: shr_sticky_wide(p, at.below - 64),
         third: Wide { hi: q, lo: 0 },
-        down: at.above - 64,
+        down: at.below - 64,
     }
 }
 
-// One word has room for q shifted left by 38 bits.
-pub fn align32(p: u64, q: u64, d: i32) -> Aligned32
-    requires { ⌜ (q < 2 ^ 26) × (mag d ≤ 2 ^ 20) ⌝ }
-    ensures { λ r. ⌜ (r .product ≡ productAt 38 p d) × (r .third ≡ thirdAt 38 q d) × (r .down ≡ downBy 38 d) ⌝ }
+// One word has room for q shifted left by 38 bits. It begins there, and whichever of the two is then below the other is shifted right.
+pub fn align(p: u64, q: u64, e: i32, g: i32) -> Aligned
+    requires { ⌜ (q < 2 ^ 26) × (mag e < 2 ^ 18) × (mag g < 2 ^ 18) ⌝ }
+    ensures { λ r. ⌜ (r .product ≡ productAt 38 p (g -ℤ e)) × (r .third ≡ thirdAt 38 q (g -ℤ e)) × (r .down ≡ downBy 38 (g -ℤ e)) ⌝ }
 {
-    let at = sides_of(d);
-    if 0 < at.below {
-        return Aligned32 {
-            product: p,
-            third: shr_sticky(q, at.below),
-            down: 0,
-        };
-    }
-    if at.above < 38 {
-        return Aligned32 {
-            product: p,
-            third: q << at.above,
-            down: 0,
-        };
-    }
-    Aligned32 {
-        product: shr_sticky(p, at.above - 38),
-        third: q << 38,
-        down: at.above - 38,
+    let at = sides_of(e, subtract_exponents(g, 38));
+    Aligned {
+        product: shr_sticky(p, at.below),
+        third: shr_sticky(q << 38, at.above),
+        down: at.below,
     }
 }

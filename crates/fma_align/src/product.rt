@@ -1,23 +1,26 @@
-// The product of two unpacked numbers, doubled to be even; its distance from a third number; and the exponent of the sum.
+// The product of two unpacked numbers, doubled to be even; its distance from a third number; and exponents in smallest units.
 ghost use mathlib.Core.Path.{_≡_};
-ghost use Prim.Native.Nat.{_*_, _<_, _^_};
+ghost use Prim.Native.Nat.{_+_, _*_, _<_, _^_};
 ghost use lib.IntN.{pos, _+ℤ_, _-ℤ_};
 ghost use lib.Signed.{mag};
+ghost use Rattle.ieee.specs.Format.{low};
 ghost use Rattle.ieee.specs.Pattern.{unlike};
+ghost use Rattle.fmt_fields.specs.Width.{format, Fits};
 ghost use Rattle.word_wide.specs.Value.{value};
 use fmt_decode::norm::Norm;
+use word_bits::pow;
 use word_wide::Wide;
 use word_wide::product::mul;
 
 // A two-word product, with its exponent and its sign.
-pub struct Product64 {
+pub struct ProductWide {
     pub sig: Wide,
     pub exp: i32,
     pub neg: bool,
 }
 
 // A one-word product, with its exponent and its sign.
-pub struct Product32 {
+pub struct Product {
     pub sig: u64,
     pub exp: i32,
     pub neg: bool,
@@ -33,36 +36,44 @@ pub fn add_exponents(a: i32, b: i32) -> i32
 
 // The exponent a less the exponent b.
 pub fn subtract_exponents(a: i32, b: i32) -> i32
-    requires { ⌜ (mag a < 2 ^ 18) × (mag b < 2 ^ 18) ⌝ }
+    requires { ⌜ (mag a < 2 ^ 19) × (mag b < 2 ^ 19) ⌝ }
     ensures { λ r. ⌜ r ≡ a -ℤ b ⌝ }
 {
     a - b
 }
 
-// The exponent of a step of the sum, in smallest units of 2^-low: the product's plus the bits it was shifted right, less one for its factor of two.
-pub fn sum_exponent(exp: i32, low: u32, down: u32) -> i32
-    requires { ⌜ (mag exp < 2 ^ 18) × (low < 2 ^ 18) × (down < 2 ^ 19) ⌝ }
-    ensures { λ r. ⌜ r ≡ exp +ℤ pos low +ℤ pos down -ℤ pos 1 ⌝ }
+// The smallest unit of a format is 2^-low: 1074 at 64 bits, 149 at 32.
+pub fn low_of(frac: u32, expo: u32) -> u32
+    requires { ⌜ Fits frac expo ⌝ }
+    ensures { λ r. ⌜ r ≡ low (format frac expo) ⌝ }
 {
-    exp + low as i32 + down as i32 - 1
+    (pow(expo - 1) + frac as u64 - 2) as u32
 }
 
-pub fn multiply64(x: Norm, y: Norm) -> Product64
+// The exponent of a step, in smallest units of 2^-low: less one, for the factor of two.
+pub fn unit_exponent(exp: i32, low: u32) -> i32
+    requires { ⌜ (mag exp < 2 ^ 19 + 2 ^ 18) × (low < 2 ^ 16) ⌝ }
+    ensures { λ r. ⌜ r ≡ exp +ℤ pos low -ℤ pos 1 ⌝ }
+{
+    exp + low as i32 - 1
+}
+
+pub fn multiply_wide(x: Norm, y: Norm) -> ProductWide
     requires { ⌜ (x .sig < 2 ^ 63) × (mag (x .exp) < 2 ^ 18) × (mag (y .exp) < 2 ^ 18) ⌝ }
     ensures { λ r. ⌜ (value (r .sig) ≡ 2 * (x .sig * y .sig)) × (r .exp ≡ x .exp +ℤ y .exp) × (r .neg ≡ unlike (x .neg) (y .neg)) ⌝ }
 {
-    Product64 {
+    ProductWide {
         sig: mul(x.sig * 2, y.sig),
         exp: add_exponents(x.exp, y.exp),
         neg: x.neg != y.neg,
     }
 }
 
-pub fn multiply32(x: Norm, y: Norm) -> Product32
+pub fn multiply(x: Norm, y: Norm) -> Product
     requires { ⌜ (x .sig < 2 ^ 31) × (y .sig < 2 ^ 32) × (mag (x .exp) < 2 ^ 18) × (mag (y .exp) < 2 ^ 18) ⌝ }
     ensures { λ r. ⌜ (r .sig ≡ 2 * (x .sig * y .sig)) × (r .exp ≡ x .exp +ℤ y .exp) × (r .neg ≡ unlike (x .neg) (y .neg)) ⌝ }
 {
-    Product32 {
+    Product {
         sig: x.sig * 2 * y.sig,
         exp: add_exponents(x.exp, y.exp),
         neg: x.neg != y.neg,

@@ -60,7 +60,7 @@ module _ (f : Format) (x y z ax ay az : ℕ) (nx : Normal f x ax) (ny : Normal f
   fused-exp l =
       let xy : ℤ = normExpOf f x +ℤ normExpOf f y in
       let k : ℕ = downBy l (aboveBy f x y z) in
-      omega (arith, subZ (xy +ℤ pos (low f) +ℤ pos k) (pos 1), addZ (xy +ℤ pos (low f)) (pos k), addZ xy (pos (low f)), product-exp f x y ax ay nx ny)
+      omega (arith, subZ (xy +ℤ pos k +ℤ pos (low f)) (pos 1), addZ (xy +ℤ pos k) (pos (low f)), addZ xy (pos k), product-exp f x y ax ay nx ny)
 
   pub sized : Sized (2 ^ f .frac) (productSig f x y) (thirdSig f z)
   sized =

@@ -140,11 +140,13 @@ module _ (f : Format) (g : Fair f) (x y z : ℕ) (ox : Ordinary f x) (oy : Ordin
 
   -- the same for twice the product
   pub product-twice : fmaOf f x y z
-      ≡ answer f ties-to-even (unlike (minus f x) (minus f y)) (scaled (unlike (minus f x) (minus f y)) (productSig f x y) (normExpOf f x +ℤ normExpOf f y +ℤ pos (low f) +ℤ pos 0 -ℤ pos 1))
+      ≡ answer f ties-to-even (unlike (minus f x) (minus f y)) (scaled (unlike (minus f x) (minus f y)) (productSig f x y) (normExpOf f x +ℤ normExpOf f y +ℤ pos 0 +ℤ pos (low f) -ℤ pos 1))
   product-twice =
       let s = unlike (minus f x) (minus f y) in
-      let k = normExpOf f x +ℤ normExpOf f y +ℤ pos (low f) in
+      let a = normExpOf f x +ℤ normExpOf f y in
+      let k = a +ℤ pos (low f) in
+      let m = a +ℤ pos 0 +ℤ pos (low f) -ℤ pos 1 in
       let e : productSig f x y ≡ sigOf f x * sigOf f y * 2 ^ 1 = omega arith in
-      let n : k +ℤ pos 0 -ℤ pos 1 +ℤ pos 1 ≡ k = eqZ (k +ℤ pos 0 -ℤ pos 1 +ℤ pos 1) k (omega (arith, addZ (k +ℤ pos 0 -ℤ pos 1) (pos 1), subZ (k +ℤ pos 0) (pos 1), addZ k (pos 0))) in
+      let n : m +ℤ pos 1 ≡ k = eqZ (m +ℤ pos 1) k (omega (arith, addZ m (pos 1), subZ (a +ℤ pos 0 +ℤ pos (low f)) (pos 1), addZ (a +ℤ pos 0) (pos (low f)), addZ a (pos 0), addZ a (pos (low f)))) in
       product-alone
-      ∙ sym (ap (λ m. answer f ties-to-even s (scaled s m (k +ℤ pos 0 -ℤ pos 1))) e ∙ scaled-moves f ties-to-even s (sigOf f x * sigOf f y) 1 (k +ℤ pos 0 -ℤ pos 1) ∙ ap (λ m. answer f ties-to-even s (scaled s (sigOf f x * sigOf f y) m)) n)
+      ∙ sym (ap (λ v. answer f ties-to-even s (scaled s v m)) e ∙ scaled-moves f ties-to-even s (sigOf f x * sigOf f y) 1 m ∙ ap (λ v. answer f ties-to-even s (scaled s (sigOf f x * sigOf f y) v)) n)

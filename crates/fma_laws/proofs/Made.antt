@@ -1,58 +1,109 @@
--- The intermediates of a fused sum, whatever words hold them: each is the definition's where those it is made of are. Assumes nothing.
-use Prim.Native.Nat.{ℕ, _+_, _-_, _^_, _≤_, _<_}
-use mathlib.Core.Path.{_≡_, sym, ap, ap₂, _∙_, subst}
-use mathlib.Core.Bool.{Bool}
-use lib.IntN.{ℤ, pos, _+ℤ_, _-ℤ_}
+-- A fused sum by its parts, whatever words hold them: where each part is the definition's, so is the answer. Assumes nothing.
+use Prim.Native.Nat.{ℕ, suc, _+_, _-_, _^_, _≤_, _<_}
+use mathlib.Core.Path.{_≡_, refl, sym, ap, _∙_}
+use mathlib.Core.Bool.{Bool, true, false, cond}
+use native.Mathlib.Omega.{arith}
+use borrow.Author.Tests.{eqb-true, eqb-false, ne-eqb}
+use lib.Dec.{eqb}
+use lib.IntN.{ℤ, pos, negsuc, _+ℤ_, _-ℤ_}
 use lib.Signed.{mag}
-use Rattle.ieee.specs.Format.{low}
-use Rattle.ieee.specs.Pattern.{minus, unlike}
+use Rattle.algebra.proofs.Products.{order}
+use Rattle.algebra.proofs.Integers.{up, dn, addZ, subZ, oneZ, magZ, magZ-fact}
+use Rattle.ieee.specs.Format.{Format, low, inf}
+use Rattle.ieee.specs.Pattern.{minus, magnitude, unlike}
 use Rattle.ieee.specs.Round.{answer, ties-to-even}
 use Rattle.ieee.specs.Scalbn.{scaled}
-use Rattle.ieee.specs.Fma.{fmaOf}
+use Rattle.ieee.specs.Fma.{fmaOf, productSign}
 use Rattle.fmt_fields.specs.Width.{format, Fits}
 use Rattle.fmt_decode.specs.Norm.{normExpOf}
 use Rattle.fmt_decode.proofs.Asides.{Ordinary}
-use Rattle.fma_laws.specs.Aligned.{productAt, thirdAt, downBy, joined, joinedSign}
-use Rattle.fma_laws.specs.Fused.{productSig, thirdSig, aboveBy, productSteps, thirdSteps, fusedSteps, fusedSign, fusedExp}
-use Rattle.fma_laws.proofs.Fused.{fused-none, fused-own}
-use Rattle.fma_laws.proofs.Room.{fused-exp-fits}
+use Rattle.fmt_decode.proofs.Zeros.{unbias-small}
+use Rattle.round_wide.specs.Stuck.{stuck}
+use Rattle.round_wide.proofs.Stuck.{stuck-none, stuck-le}
+use Rattle.fma_laws.specs.Aligned.{productAt, thirdAt, downBy, joined, joinedSign, addedSteps, addedSign, addedExp}
+use Rattle.fma_laws.specs.Fused.{productSig, productExp, thirdSig, thirdSigOf, thirdExpOf, lowest, fusedSteps, fusedSign, roundedSum}
+use Rattle.fma_laws.proofs.Sums.{sign-first}
+use Rattle.fma_laws.proofs.Fused.{fused-none, fused-own, product-twice}
+use Rattle.fma_laws.proofs.Room.{product-small, product-some}
 
-module _ {p e : ℕ} (w : Fits p e) (l x y z : ℕ) where
-  -- the product and z aligned to one exponent
-  pub record Levelled (a b down : ℕ) : Type 0 where
-    pub product-is : a ≡ productSteps (format p e) l x y z
-    pub third-is : b ≡ thirdSteps (format p e) l x y z
-    pub down-is : down ≡ downBy l (aboveBy (format p e) x y z)
+-- ---- a sum rounded
+pub rounded-some : (f : Format) (s : Bool) (n : ℕ) (e : ℤ) → 0 < n → roundedSum f s n e ≡ answer f ties-to-even s (scaled s n (e +ℤ pos (low f) -ℤ pos 1))
+unfolding roundedSum
+rounded-some f s n e l = ap (λ b. cond b 0 (answer f ties-to-even s (scaled s n (e +ℤ pos (low f) -ℤ pos 1)))) (ne-eqb n 0 (omega arith))
 
-  pub levelled : {m q : ℕ} {d : ℤ} {a b down : ℕ} → m ≡ productSig (format p e) x y → q ≡ thirdSig (format p e) z → d ≡ aboveBy (format p e) x y z
-      → (a ≡ productAt l m d) × (b ≡ thirdAt l q d) × (down ≡ downBy l d) → Levelled a b down
-  levelled h k i made =
-      record { product-is = made .0 ∙ ap₂ (productAt l) h i; third-is = made .1 ∙ ap₂ (thirdAt l) k i; down-is = made .2 ∙ ap (downBy l) i }
+pub rounded-none : (f : Format) (s : Bool) (n : ℕ) (e : ℤ) → n ≡ 0 → roundedSum f s n e ≡ 0
+unfolding roundedSum
+rounded-none f s n e h = ap (λ m. cond (eqb m 0) 0 (answer f ties-to-even s (scaled s n (e +ℤ pos (low f) -ℤ pos 1)))) h
 
-  -- their sum, its sign, and the exponent of a step
-  pub record Summed (sum : ℕ) (neg : Bool) (at : ℤ) : Type 0 where
-    pub sum-is : sum ≡ fusedSteps (format p e) l x y z
-    pub neg-is : neg ≡ fusedSign (format p e) l x y z
-    pub at-is : at ≡ fusedExp (format p e) l x y z
+-- its exponent, in smallest units
+pub units-small : {p e : ℕ} → Fits p e → (n : ℤ) → mag n < 2 ^ 19 + 2 ^ 18 → mag (n +ℤ pos (low (format p e)) -ℤ pos 1) < 2 ^ 20 - 64
+units-small {p} {e} w n l =
+    let b = n +ℤ pos (low (format p e)) in
+    let bounds : (up (b -ℤ pos 1) < 2 ^ 20 - 64 + dn (b -ℤ pos 1)) × (dn (b -ℤ pos 1) ≤ 2 ^ 20 - 64 + up (b -ℤ pos 1)) =
+    omega (arith, subZ b (pos 1), addZ n (pos (low (format p e))), magZ-fact n l, unbias-small w) in
+    magZ (b -ℤ pos 1) (2 ^ 20 - 64) (bounds .0) (bounds .1)
 
-  pub summed : {a b down sum : ℕ} {s t neg : Bool} {k at : ℤ} → Levelled a b down → s ≡ unlike (minus (format p e) x) (minus (format p e) y) → t ≡ minus (format p e) z
-      → k ≡ normExpOf (format p e) x +ℤ normExpOf (format p e) y → (sum ≡ joined (unlike s t) a b) × (neg ≡ joinedSign s t a b) → at ≡ k +ℤ pos (low (format p e)) +ℤ pos down -ℤ pos 1 → Summed sum neg at
-  summed v f g h i j =
-      record {
-        sum-is = i .0 ∙ (λ n. joined (unlike (f n) (g n)) (v .product-is n) (v .third-is n));
-        neg-is = i .1 ∙ (λ n. joinedSign (f n) (g n) (v .product-is n) (v .third-is n));
-        at-is = j ∙ (λ n. h n +ℤ pos (low (format p e)) +ℤ pos (v .down-is n) -ℤ pos 1);
-      }
+-- ---- a zero added: the product stays as it is
+module _ (l p : ℕ) where
+  product-stays : (d : ℤ) → up d ≡ 0 → (productAt l p d ≡ p) × (downBy l d ≡ 0)
+  unfolding productAt
+  product-stays (pos n) e = let z : n - l ≡ 0 = omega arith in (ap (stuck p) z ∙ stuck-none p, z)
+  product-stays (negsuc n) e = (refl, refl)
 
-  module _ (ox : Ordinary (format p e) x) (oy : Ordinary (format p e) y) (oz : Ordinary (format p e) z) where
-    pub at-less : {sum : ℕ} {neg : Bool} {at : ℤ} → Summed sum neg at → mag at < 2 ^ 20 - 64
-    at-less v = subst (λ n. mag n < 2 ^ 20 - 64) (sym (v .at-is)) (fused-exp-fits w x y z ox oy oz l)
+nothing-comes : (l : ℕ) (d : ℤ) → thirdAt l 0 d ≡ 0
+unfolding thirdAt
+nothing-comes l (pos n) = omega arith
+nothing-comes l (negsuc n) = let h = stuck-le 0 (suc n) in omega arith
 
-    pub nothing-left : {sum : ℕ} {neg : Bool} {at : ℤ} → Summed sum neg at → sum ≡ 0 → 0 ≡ fmaOf (format p e) x y z
-    nothing-left v h = sym (fused-none (format p e) (w .fair) l x y z ox oy oz (sym (v .sum-is) ∙ h))
+nothing-joined : (u : Bool) (a : ℕ) → joined u a 0 ≡ a
+nothing-joined false a = omega arith
+nothing-joined true a = omega arith
 
-    pub sum-rounds : {sum : ℕ} {neg : Bool} {at : ℤ} → 2 ≤ p → 2 + p ≤ l → Summed sum neg at → 0 < sum
-        → answer (format p e) ties-to-even neg (scaled neg sum at) ≡ fmaOf (format p e) x y z
-    sum-rounds two room v h =
-        (λ n. answer (format p e) ties-to-even (v .neg-is n) (scaled (v .neg-is n) (v .sum-is n) (v .at-is n)))
-        ∙ sym (fused-own (format p e) (w .fair) l x y z ox oy oz two room (subst (λ n. 0 < n) (v .sum-is) h))
+-- ---- x and y are numbers that are not zero, and z is a number
+module _ {p e : ℕ} (w : Fits p e) (l : ℕ) (two : 2 ≤ p) (room : 2 + p ≤ l) (x y z : ℕ) (ox : Ordinary (format p e) x) (oy : Ordinary (format p e) y) where
+  abbrev f : Format
+  f = format p e
+
+  abbrev P : ℕ
+  P = productSig f x y
+
+  abbrev E : ℤ
+  E = productExp f x y
+
+  abbrev S : Bool
+  S = productSign f x y
+
+  some-added : Ordinary f z → roundedSum f (fusedSign f l x y z) (fusedSteps f l x y z) (addedExp l E (normExpOf f z)) ≡ fmaOf f x y z
+  some-added oz =
+      order 1 (fusedSteps f l x y z)
+      (λ h. rounded-some f _ _ _ h ∙ sym (fused-own f (w .fair) l x y z ox oy oz two room h))
+      (λ h. let none : fusedSteps f l x y z ≡ 0 = omega arith in rounded-none f _ _ _ none ∙ sym (fused-none f (w .fair) l x y z ox oy oz none))
+
+  zero-added : magnitude f z ≡ 0 → roundedSum f (addedSign l P E S 0 lowest (minus f z)) (addedSteps l P E S 0 lowest (minus f z)) (addedExp l E lowest) ≡ fmaOf f x y z
+  zero-added h =
+      let d = lowest -ℤ E in
+      let under : up d ≡ 0 = omega (arith, subZ lowest E, oneZ d, oneZ E, magZ-fact E (product-small w x y ox oy)) in
+      let (a, b) = product-stays l P d under in
+      let n = nothing-comes l d in
+      (λ i. roundedSum f (joinedSign S (minus f z) (a i) (n i)) (joined (unlike S (minus f z)) (a i) (n i)) (E +ℤ pos (b i)))
+      ∙ (λ i. roundedSum f (sign-first S (minus f z) P 0 (omega arith) i) (nothing-joined (unlike S (minus f z)) P i) (E +ℤ pos 0))
+      ∙ rounded-some f S P (E +ℤ pos 0) (product-some f (w .fair) x y ox oy)
+      ∙ sym (product-twice f (w .fair) x y z ox oy h)
+
+  added : magnitude f z < inf f → roundedSum f (addedSign l P E S (thirdSigOf f z) (thirdExpOf f z) (minus f z)) (addedSteps l P E S (thirdSigOf f z) (thirdExpOf f z) (minus f z)) (addedExp l E (thirdExpOf f z)) ≡ fmaOf f x y z
+  added h = by-zero (eqb (magnitude f z) 0) refl
+    where
+      by-zero : (b : Bool) → eqb (magnitude f z) 0 ≡ b
+          → let q = cond b 0 (thirdSig f z) in let g = cond b lowest (normExpOf f z) in
+          roundedSum f (addedSign l P E S q g (minus f z)) (addedSteps l P E S q g (minus f z)) (addedExp l E g) ≡ fmaOf f x y z
+      by-zero true i = zero-added (eqb-true (magnitude f z) 0 i)
+      by-zero false i = let t = eqb-false (magnitude f z) 0 i in some-added (record { least = omega (arith, t); most = h })
+
+  -- the parts, each as its function gives it
+  pub rounded-sum-is : magnitude f z < inf f → {a b sum r : ℕ} {c d m : ℤ} {s t u : Bool} → (a ≡ P) × (c ≡ E) × (s ≡ S) → (b ≡ thirdSigOf f z) × (d ≡ thirdExpOf f z) × (t ≡ minus f z)
+      → (sum ≡ addedSteps l a c s b d t) × (u ≡ addedSign l a c s b d t) × (m ≡ addedExp l c d) → r ≡ roundedSum f u sum m → r ≡ fmaOf f x y z
+  rounded-sum-is h (i, j, k) (i', j', k') (g, v, o) q =
+      q
+      ∙ (λ n. roundedSum f (v n) (g n) (o n))
+      ∙ (λ n. roundedSum f (addedSign l (i n) (j n) (k n) (i' n) (j' n) (k' n)) (addedSteps l (i n) (j n) (k n) (i' n) (j' n) (k' n)) (addedExp l (j n) (j' n)))
+      ∙ added h

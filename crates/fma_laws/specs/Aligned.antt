@@ -2,7 +2,8 @@
 use Prim.Native.Nat.{ℕ, suc, _+_, _-_, _*_, _^_, min}
 use mathlib.Core.Bool.{Bool, true, false, cond}
 use lib.Dec.{ltb}
-use lib.IntN.{ℤ, pos, negsuc}
+use lib.IntN.{ℤ, pos, negsuc, _+ℤ_, _-ℤ_}
+use Rattle.ieee.specs.Pattern.{unlike}
 use Rattle.round_wide.specs.Stuck.{stuck}
 
 -- q is shifted left by d, but by at most l bits, the room for it; for the rest p is shifted right. Where q is below p, q is shifted right.
@@ -30,3 +31,13 @@ joined true a b = (a - b) + (b - a)
 -- its sign, where s is that of the first: the other sign where the second is greater
 abbrev pub joinedSign : Bool → Bool → ℕ → ℕ → Bool
 joinedSign s t a b = cond (ltb a b) t s
+
+-- a product of p steps with the exponent e and the sign s, and a third number of q steps with g and t, added: how many steps, of which sign and exponent
+abbrev pub addedSteps : ℕ → ℕ → ℤ → Bool → ℕ → ℤ → Bool → ℕ
+addedSteps l p e s q g t = joined (unlike s t) (productAt l p (g -ℤ e)) (thirdAt l q (g -ℤ e))
+
+abbrev pub addedSign : ℕ → ℕ → ℤ → Bool → ℕ → ℤ → Bool → Bool
+addedSign l p e s q g t = joinedSign s t (productAt l p (g -ℤ e)) (thirdAt l q (g -ℤ e))
+
+abbrev pub addedExp : ℕ → ℤ → ℤ → ℤ
+addedExp l e g = e +ℤ pos (downBy l (g -ℤ e))

@@ -1,37 +1,53 @@
--- x times y plus z, of nonzero numbers, as a count of steps, an exponent and a sign, where q has room to be shifted left by l bits. Assumes nothing.
+-- x times y plus z as a count of steps, a sign and an exponent, where z has room to be shifted left by l bits. Assumes nothing.
 use Prim.Native.Nat.{ℕ, _*_}
-use mathlib.Core.Bool.{Bool}
-use lib.IntN.{ℤ, pos, _+ℤ_, _-ℤ_}
+use mathlib.Core.Bool.{Bool, cond}
+use lib.Dec.{eqb}
+use lib.IntN.{ℤ, pos, negsuc, _+ℤ_, _-ℤ_}
 use Rattle.ieee.specs.Format.{Format, low}
-use Rattle.ieee.specs.Pattern.{minus, unlike}
+use Rattle.ieee.specs.Pattern.{minus, magnitude}
+use Rattle.ieee.specs.Round.{answer, ties-to-even}
+use Rattle.ieee.specs.Scalbn.{scaled}
+use Rattle.ieee.specs.Fma.{productSign}
 use Rattle.fmt_decode.specs.Significand.{sigOf}
 use Rattle.fmt_decode.specs.Norm.{normExpOf}
-use Rattle.fma_laws.specs.Aligned.{productAt, thirdAt, downBy, joined, joinedSign}
+use Rattle.fma_laws.specs.Aligned.{addedSteps, addedSign, addedExp}
 
 -- the significands, doubled: the one that loses no bit is then an even count of steps, and only a marked sum can be odd
 abbrev pub productSig : Format → ℕ → ℕ → ℕ
 productSig f x y = 2 * (sigOf f x * sigOf f y)
 
+abbrev pub productExp : Format → ℕ → ℕ → ℤ
+productExp f x y = normExpOf f x +ℤ normExpOf f y
+
 abbrev pub thirdSig : Format → ℕ → ℕ
 thirdSig f z = 2 * sigOf f z
 
+-- a zero has no steps, and an exponent that is below every product's: nothing is added, and nothing is shifted out
+abbrev pub lowest : ℤ
+lowest = negsuc 262143
+
+abbrev pub thirdSigOf : Format → ℕ → ℕ
+thirdSigOf f z = cond (eqb (magnitude f z) 0) 0 (thirdSig f z)
+
+abbrev pub thirdExpOf : Format → ℕ → ℤ
+thirdExpOf f z = cond (eqb (magnitude f z) 0) lowest (normExpOf f z)
+
 -- how far z is above the product
 abbrev pub aboveBy : Format → ℕ → ℕ → ℕ → ℤ
-aboveBy f x y z = normExpOf f z -ℤ (normExpOf f x +ℤ normExpOf f y)
+aboveBy f x y z = normExpOf f z -ℤ productExp f x y
 
--- both at one exponent, and their sum
-abbrev pub productSteps : Format → ℕ → ℕ → ℕ → ℕ → ℕ
-productSteps f l x y z = productAt l (productSig f x y) (aboveBy f x y z)
-
-abbrev pub thirdSteps : Format → ℕ → ℕ → ℕ → ℕ → ℕ
-thirdSteps f l x y z = thirdAt l (thirdSig f z) (aboveBy f x y z)
-
+-- the sum of both, where z is not a zero
 abbrev pub fusedSteps : Format → ℕ → ℕ → ℕ → ℕ → ℕ
-fusedSteps f l x y z = joined (unlike (unlike (minus f x) (minus f y)) (minus f z)) (productSteps f l x y z) (thirdSteps f l x y z)
+fusedSteps f l x y z = addedSteps l (productSig f x y) (productExp f x y) (productSign f x y) (thirdSig f z) (normExpOf f z) (minus f z)
 
 abbrev pub fusedSign : Format → ℕ → ℕ → ℕ → ℕ → Bool
-fusedSign f l x y z = joinedSign (unlike (minus f x) (minus f y)) (minus f z) (productSteps f l x y z) (thirdSteps f l x y z)
+fusedSign f l x y z = addedSign l (productSig f x y) (productExp f x y) (productSign f x y) (thirdSig f z) (normExpOf f z) (minus f z)
 
 -- the exponent of a step, in smallest units of 2 ^ -low; less one, for the factor two
 abbrev pub fusedExp : Format → ℕ → ℕ → ℕ → ℕ → ℤ
-fusedExp f l x y z = normExpOf f x +ℤ normExpOf f y +ℤ pos (low f) +ℤ pos (downBy l (aboveBy f x y z)) -ℤ pos 1
+fusedExp f l x y z = addedExp l (productExp f x y) (normExpOf f z) +ℤ pos (low f) -ℤ pos 1
+
+-- a sum rounded once, where a sum of no steps is +0
+unfoldable pub roundedSum : Format → Bool → ℕ → ℤ → ℕ
+unfolding answer
+roundedSum f s n e = cond (eqb n 0) 0 (answer f ties-to-even s (scaled s n (e +ℤ pos (low f) -ℤ pos 1)))

@@ -1,3 +1,4 @@
-// x times y plus z of nonzero numbers, rounded once, at each width.
-pub mod sum32;
-pub mod sum64;
+// The parts of x times y plus z of numbers, added and rounded once, over the format.
+pub mod sum;
+pub mod sum_wide;
+pub mod third;

@@ -2,7 +2,7 @@
 ghost use mathlib.Core.Path.{_≡_};
 ghost use Prim.Native.Nat.{_≤_, _<_, _^_};
 ghost use lib.Signed.{mag};
-ghost use Rattle.ieee.specs.Format.{b64, b32, inf};
+ghost use Rattle.ieee.specs.Format.{inf};
 ghost use Rattle.ieee.specs.Pattern.{signed};
 ghost use Rattle.ieee.specs.Round.{answer, even, ties-to-even};
 ghost use Rattle.ieee.specs.Scalbn.{scaled};
@@ -28,11 +28,4 @@ pub fn round(frac: u32, expo: u32, neg: bool, sig: u64, exp: i32) -> u64
 {
     let c = locate(frac, expo, sig, exp);
     choose_and_sign(frac, expo, neg, c.below, c.location)
-}
-
-pub fn round32(neg: bool, sig: u64, exp: i32) -> u32
-    requires { ⌜ mag exp ≤ 2 ^ 20 ⌝ }
-    ensures { λ r. ⌜ r ≡ answer b32 ties-to-even neg (scaled neg sig exp) ⌝ }
-{
-    round(23, 8, neg, sig, exp) as u32
 }

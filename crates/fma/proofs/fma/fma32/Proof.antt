@@ -1,108 +1,37 @@
--- Operands set aside have a row (Rows), a zero z leaves the product, and all others are a sum of nonzero numbers; narrowing keeps a pattern of 32 bits. Assumes nothing.
+-- Operands with a row have it, and numbers are added and rounded once (Parts). Assumes nothing.
 use mathlib.Core.Path.{_≡_, sym, _∙_}
-use Prim.Native.Nat.{_^_, _<_}
-use mathlib.Core.Logic.{inl, inr}
 use mathlib.Core.Bool.{false}
 use native.Mathlib.Omega.{arith}
+use borrow.Author.Needs.{needs}
 use Rattle.ieee.specs.Format.{b32}
-use Rattle.ieee.specs.Fma.{fmaOf}
 use Rattle.fmt_fields.proofs.Widths.{fits32}
-use Rattle.fmt_decode.specs.Norm.{aside}
-use Rattle.fmt_decode.proofs.Asides.{set-aside}
-use Rattle.fma.specs.Special.{Special}
-use Rattle.fma.proofs.Rows.{fma-pattern}
+use Rattle.fma.specs.Special.{special}
+use Rattle.fma.proofs.Parts.{factors, third, by-parts, is-pattern}
 use Rattle.fma.proofs.fma.fma32.Statement.{statement}
 use Rattle.fma.proofs.fma.fma32.Tie as tie
 
--- neither factor is set aside
-module _ (c : tie.Else2) where
-  abbrev s : tie.Start
-  s = c .before .before .before .before
-
-  x-not : aside b32 (s .args .x) ≡ false
-  x-not = sym (c .before .before .before .is-zero-nan-inf .ensures) ∙ c .before .before .if1 .left
-
-  y-not : aside b32 (s .args .y) ≡ false
-  y-not = sym (c .before .is-zero-nan-inf2 .ensures) ∙ c .if2 .left
-
--- z is set aside and is not a zero
-special-z : (c : tie.Then4) → let i = s (c .before .before .before) in Special b32 (i .args .x) (i .args .y) (i .args .z)
-special-z c =
-    let n = c .before in
-    let i = s (n .before .before) in
-    set-aside b32 (i .args .z) (sym (n .is-zero-nan-inf3 .ensures) ∙ c .if4 .taken) (λ e. absurd (omega (arith, n .before .if3 .left))) (λ l. inr (inr l))
-
-fma-special-requires : tie.Need-fma-special-requires
-fma-special-requires c κs = (fits32, omega arith, inl (sym (c .before .is-zero-nan-inf .ensures) ∙ c .if1 .taken))
-
-fma-special-requires-2 : tie.Need-fma-special-requires-2
-fma-special-requires-2 c κs = (fits32, omega arith, inr (inl (sym (c .before .is-zero-nan-inf2 .ensures) ∙ c .if2 .taken)))
-
-fma-special-requires-3 : tie.Need-fma-special-requires-3
-fma-special-requires-3 c κs = (fits32, omega arith, special-z c)
-
-product-alone32-requires : tie.Need-product-alone32-requires
-product-alone32-requires c κs = (x-not (c .before), y-not (c .before), c .if3 .taken)
-
-fma-numbers32-requires : tie.Need-fma-numbers32-requires
-fma-numbers32-requires c κs =
-    let o = c .before .before .before in
-    (x-not o, y-not o, sym (c .before .is-zero-nan-inf3 .ensures) ∙ c .if4 .left)
-
-returns : tie.Need-returns
-returns c = c .fma-special .ensures
+numbers : (c : tie.Else1) → let a = c .before .before .args in special b32 (a .x) (a .y) (a .z) ≡ false
+numbers c = sym (c .before .is-special .ensures) ∙ c .if1 .left
 
 returns-2 : tie.Need-returns-2
-returns-2 c = c .fma-special2 .ensures
-
-returns-3 : tie.Need-returns-3
-returns-3 c = c .product-alone32 .ensures
-
-returns-4 : tie.Need-returns-4
-returns-4 c = c .fma-special3 .ensures
-
-returns-5 : tie.Need-returns-5
-returns-5 c = c .fma-numbers32 .ensures
-
-is-zero-nan-inf-requires : tie.Need-is-zero-nan-inf-requires
-is-zero-nan-inf-requires c κs = fits32
-
-is-zero-nan-inf-requires-2 : tie.Need-is-zero-nan-inf-requires-2
-is-zero-nan-inf-requires-2 c κs = fits32
-
-is-zero-nan-inf-requires-3 : tie.Need-is-zero-nan-inf-requires-3
-is-zero-nan-inf-requires-3 c κs = fits32
-
--- the answer fits in the word
-narrow : (s : tie.Start) → fmaOf b32 (s .args .x) (s .args .y) (s .args .z) < 2 ^ 32
-narrow s = omega (arith, fma-pattern fits32 (s .args .x) (s .args .y) (s .args .z))
-
-cast-result : tie.Need-cast-result
-cast-result c = record { fits = omega (arith, c .fma-special .ensures, narrow (c .before .before .before)) }
-
-cast-result-2 : tie.Need-cast-result-2
-cast-result-2 c = record { fits = omega (arith, c .fma-special2 .ensures, narrow (c .before .before .before .before .before)) }
-
-cast-result-3 : tie.Need-cast-result-3
-cast-result-3 c = record { fits = omega (arith, c .fma-special3 .ensures, narrow (s (c .before .before .before .before))) }
+returns-2 c =
+    let s = c .before in
+    let t = s .before in
+    let p = t .before in
+    let a = p .before .before .before .args in
+    by-parts fits32 (a .x) (a .y) (a .z) (numbers (p .before)) 38 (omega arith) (omega arith) (p .product-of .ensures .0) (t .third-of .ensures .0) (s .add-third .ensures .0) (c .round-sum .ensures)
 
 pub fma32-spec : {M : Type 1} → statement M
 fma32-spec =
     tie.close
     (tie.spec
-    is-zero-nan-inf-requires
-    fma-special-requires
-    cast-result
-    returns
-    is-zero-nan-inf-requires-2
-    fma-special-requires-2
-    cast-result-2
-    returns-2
-    product-alone32-requires
-    returns-3
-    is-zero-nan-inf-requires-3
-    fma-special-requires-3
-    cast-result-3
-    returns-4
-    fma-numbers32-requires
-    returns-5)
+    (λ c κs. fits32)
+    (λ c κs. (fits32, omega arith, sym (c .before .is-special .ensures) ∙ c .if1 .taken))
+    (λ c. let a = c .before .before .before .args in record { fits = is-pattern fits32 (a .x) (a .y) (a .z) (c .fma-special .ensures) })
+    (λ c. search needs)
+    (λ c κs. let a = c .before .before .args in let (w, i, j) = factors fits32 (a .x) (a .y) (a .z) (numbers c) in (w, omega arith, i, j))
+    (λ c κs. let a = c .before .before .before .args in third fits32 (a .x) (a .y) (a .z) (numbers (c .before)))
+    (λ c κs. search needs)
+    (λ c κs. search needs)
+    (λ c. let a = c .before .before .before .before .before .before .args in record { fits = is-pattern fits32 (a .x) (a .y) (a .z) (returns-2 c) })
+    returns-2)
