@@ -22,7 +22,7 @@ use Rattle.fmt_fields.specs.Width.{format, Fits}
 use Rattle.fmt_decode.proofs.Packs.{Apart, apart, pastOne, significand, past-one-small, exactly-below}
 use Rattle.fmt_decode.specs.Rows.{noRemainder}
 use Rattle.fmt_fields.proofs.Numbers.{infinity-some}
-use Rattle.fmod.specs.Division.{settled, past, sig}
+use Rattle.fmod.specs.Division.{settled, past, sig, leftOf}
 use Rattle.fmt_decode.proofs.Sorts.{no-remainder-none, Remains, remains}
 
 -- a common factor of two numbers is a factor of the remainder
@@ -141,3 +141,7 @@ module _ {p e : ℕ} (w : Fits p e) (x y : ℕ) where
   reduces s =
       let (has, l) = neither (noRemainder (format p e) x y) (ltb (magnitude (format p e) x) (magnitude (format p e) y)) s in
       fmod-reduces (format p e) x y (infinity-some w) (remains (format p e) (infinity-some w) x y has) (ltb-false (magnitude (format p e) x) (magnitude (format p e) y) l)
+
+-- significands and a shift that are the definition's leave what it leaves
+pub left-by-parts : (f : Format) (x y : ℕ) {a b c : ℕ} → (a ≡ sig f x) × (b ≡ past f x - past f y) × (c ≡ sig f y) → a * 2 ^ b % c ≡ leftOf f x y
+left-by-parts f x y (i, j, k) = λ n. i n * 2 ^ j n % k n

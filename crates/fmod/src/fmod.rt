@@ -1,12 +1,12 @@
 // fmod: the remainder of x by y, toward zero, with the sign of x; always exact.
 ghost use mathlib.Core.Path.{_≡_};
 ghost use mathlib.Core.Bool.{true, false};
-ghost use Prim.Native.Nat.{_+_, _*_, _%_, _<_, _^_};
+ghost use Prim.Native.Nat.{_+_, _-_, _<_, _^_};
 ghost use Rattle.ieee.specs.Format.{b64, b32};
 ghost use Rattle.ieee.specs.Pattern.{Pattern};
 ghost use Rattle.ieee.specs.Fmod.{fmodOf};
 ghost use Rattle.fmt_fields.specs.Width.{format, Fits};
-ghost use Rattle.fmod.specs.Division.{settled, leftOf};
+ghost use Rattle.fmod.specs.Division.{settled, past, sig, leftOf};
 use crate::routes::reduction32;
 use crate::routes::reduction64;
 use fmt_decode::pack::into_sig_exp;
@@ -48,7 +48,10 @@ fn settled_answer(frac: u32, expo: u32, x: u64, y: u64) -> u64
 
 fn unpack(frac: u32, expo: u32, x: u64, y: u64) -> Division
     requires { ⌜ Fits frac expo × (settled (format frac expo) x y ≡ false) ⌝ }
-    ensures { λ d. ⌜ (d .sig * 2 ^ d .shift % d .by ≡ leftOf (format frac expo) x y) × (d .sig < 2 ^ (frac + 1)) × (0 < d .by) × (d .by < 2 ^ (frac + 1)) × (d .shift < 2 ^ 16) ⌝ }
+    ensures { λ d. ⌜ ((d .sig ≡ sig (format frac expo) x)
+        × (d .shift ≡ past (format frac expo) x - past (format frac expo) y)
+        × (d .by ≡ sig (format frac expo) y))
+        × (d .sig < 2 ^ (frac + 1)) × (0 < d .by) × (d .by < 2 ^ (frac + 1)) × (d .shift < 2 ^ 16) ⌝ }
 {
     let a = into_sig_exp(frac, expo, magnitude_of(frac, expo, x));
     let b = into_sig_exp(frac, expo, magnitude_of(frac, expo, y));

@@ -49,13 +49,13 @@ scaled {w} {y} l p h =
     parts : y * 2 ^ z ≡ y * 2 ^ (z - 2) * 4
     parts = omega (arith, times y (pow-diff {a = z} {b = 2} two))
 
--- ---- the scale: the remainder of x 2 ^ (e + s) by y 2 ^ s is 2 ^ s times that of x 2 ^ e by y
-pub left-scaled-back : (x e y s : ℕ) → 0 < y → x * 2 ^ (e + s) % (y * 2 ^ s) / 2 ^ s ≡ x * 2 ^ e % y
+-- ---- the scale: the remainder of x 2 ^ s 2 ^ e by y 2 ^ s is 2 ^ s times that of x 2 ^ e by y
+pub left-scaled-back : (x e y s : ℕ) → 0 < y → x * 2 ^ s * 2 ^ e % (y * 2 ^ s) / 2 ^ s ≡ x * 2 ^ e % y
 left-scaled-back x e y s p =
     let d = div-mod (x * 2 ^ e) y p in
-    let h : x * 2 ^ (e + s) % (y * 2 ^ s) ≡ x * 2 ^ e % y * 2 ^ s
-    = mod-is (x * 2 ^ (e + s)) (y * 2 ^ s) (x * 2 ^ e / y) (x * 2 ^ e % y * 2 ^ s) (omega (arith, times-le (2 ^ s) (d .1), pow-pos s)) (simp pow-add (omega (arith, times (2 ^ s) (d .0)))) in
-    div-is (x * 2 ^ (e + s) % (y * 2 ^ s)) (2 ^ s) (x * 2 ^ e % y) 0 (pow-pos s) (omega (arith, h)) .0
+    let h : x * 2 ^ s * 2 ^ e % (y * 2 ^ s) ≡ x * 2 ^ e % y * 2 ^ s
+    = mod-is (x * 2 ^ s * 2 ^ e) (y * 2 ^ s) (x * 2 ^ e / y) (x * 2 ^ e % y * 2 ^ s) (omega (arith, times-le (2 ^ s) (d .1), pow-pos s)) (omega (arith, times (2 ^ s) (d .0))) in
+    div-is (x * 2 ^ s * 2 ^ e % (y * 2 ^ s)) (2 ^ s) (x * 2 ^ e % y) 0 (pow-pos s) (omega (arith, h)) .0
 
 -- ---- a divisor that is a power of two: the low bits, or 0 where they are all shifted out
 low-bits : (x e j w : ℕ) → j ≤ w → x * 2 ^ e % 2 ^ w % 2 ^ j ≡ x * 2 ^ e % 2 ^ j

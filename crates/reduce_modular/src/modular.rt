@@ -1,6 +1,7 @@
 // The reduction, x times 2^e modulo y, on 64-bit words: each step of the reducer takes 63 bits of the shift.
 ghost use mathlib.Core.Path.{_≡_};
-ghost use Prim.Native.Nat.{_+_, _*_, _%_, _≤_, _<_, _^_};
+ghost use Prim.Native.Nat.{_+_, _-_, _*_, _%_, _≤_, _<_, _^_};
+ghost use lib.Count.{leadingZeros};
 ghost use Rattle.reduce_laws.specs.Reducer.{Power};
 ghost use Rattle.reduce_modular.specs.Held.{Starts};
 use crate::reducer::Reducer;
@@ -39,12 +40,12 @@ pub fn by_words(x: u64, e: u32, n: u64, d: Divided) -> u64
 // The scale that leaves y two leading zeros.
 pub fn scale_of(y: u64) -> u32
     requires { ⌜ (0 < y) × (y < 2 ^ 62) ⌝ }
-    ensures { λ s. ⌜ (s < 62) × (2 ^ 61 ≤ y * 2 ^ s) × (y * 2 ^ s < 2 ^ 62) × (y ≤ y * 2 ^ s) ⌝ }
+    ensures { λ s. ⌜ (s ≡ leadingZeros 64 y - 2) × (s < 62) × (2 ^ 61 ≤ y * 2 ^ s) × (y * 2 ^ s < 2 ^ 62) × (y ≤ y * 2 ^ s) ⌝ }
 {
     u64::leading_zeros(y) - 2
 }
 
-// The divisor is scaled until it has two leading zeros, and the shift grows by as much; the remainder is then scaled back.
+// The divisor is scaled until it has two leading zeros, and x with it; the remainder is then scaled back.
 pub fn linear_mul_reduction(x: u64, e: u32, y: u64) -> u64
     requires { ⌜ (x < 2 * y) × (y < 2 ^ 62) × (e < 2 ^ 31) ⌝ }
     ensures { λ r. ⌜ r ≡ x * 2 ^ e % y ⌝ }
@@ -54,5 +55,5 @@ pub fn linear_mul_reduction(x: u64, e: u32, y: u64) -> u64
     if n == 0x2000_0000_0000_0000 {
         return by_power(x, e, y);
     }
-    by_words(x, e + s, n, start(y, s)) >> s
+    by_words(x << s, e, n, start(y, s)) >> s
 }

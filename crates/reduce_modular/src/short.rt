@@ -16,5 +16,5 @@ pub fn linear_mul_short(x: u64, e: u32, y: u64) -> u64
     if n == 0x2000_0000_0000_0000 {
         return by_power(x, e, y);
     }
-    by_words(x, e + s, n, start_short(y, s)) >> s
+    by_words(x << s, e, n, start_short(y, s)) >> s
 }

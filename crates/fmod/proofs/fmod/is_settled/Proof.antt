@@ -1,10 +1,5 @@
 -- The tests are the definition's. Assumes nothing.
-use mathlib.Core.Path.{_≡_, sym, ap, ap₂, _∙_}
-use mathlib.Core.Bool.{_||_}
 use borrow.Author.Needs.{needs}
-use lib.Dec.{ltb}
-use Rattle.ieee.specs.Pattern.{magnitude}
-use Rattle.fmt_fields.specs.Width.{format}
 use Rattle.fmod.proofs.fmod.is_settled.Statement.{statement}
 use Rattle.fmod.proofs.fmod.is_settled.Tie as tie
 

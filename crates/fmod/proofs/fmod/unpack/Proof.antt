@@ -1,6 +1,6 @@
 -- The exponents are in order, since x is not below y (Fmods). Assumes nothing.
-use Prim.Native.Nat.{_+_, _-_, _*_, _%_, _^_}
-use mathlib.Core.Path.{_≡_}
+use Prim.Native.Nat.{_+_, _-_}
+use mathlib.Core.Path.{_≡_, ap₂}
 use native.Mathlib.Nat.{mod-lt}
 use native.Mathlib.Omega.{arith}
 use borrow.Author.Needs.{needs}
@@ -42,7 +42,7 @@ module _ (c : tie.After-into-sig-exp2) where
 returns : tie.Need-returns
 returns c =
     let b = c .before .before in (
-      λ i. x-sig b i * 2 ^ (x-exp b i - y-exp b i) % y-sig b i,
+      (x-sig b, ap₂ _-_ (x-exp b) (y-exp b), y-sig b),
       omega (arith, x-sig b, d b .few-x),
       omega (arith, y-sig b, d b .some),
       omega (arith, y-sig b, d b .few-y),

@@ -1,16 +1,24 @@
 -- `reduce_modular::modular::linear_mul_reduction` meets its contract: a divisor with two leading zeros, scaled back (reduce_laws: Scales). Assumes nothing.
-use mathlib.Core.Path.{_≡_, sym, ap, _∙_}
-use Prim.Native.Nat.{_+_, _*_, _/_, _%_, _^_, _<_}
+use mathlib.Core.Path.{_≡_, sym, ap, ap₂, _∙_}
+use Prim.Native.Nat.{_*_, _/_, _%_, _^_, _<_}
 use native.Mathlib.Nat.{mod-eq-of-lt}
 use native.Mathlib.Omega.{arith}
 use borrow.Author.Needs.{needs}
+use lib.Pow.{pow-pos}
+use Rattle.algebra.proofs.Products.{times-le}
 use Rattle.reduce_laws.proofs.Scales.{left-scaled-back, power-scaled}
 use Rattle.reduce_modular.proofs.modular.linear_mul_reduction.Statement.{statement}
 use Rattle.reduce_modular.proofs.modular.linear_mul_reduction.Tie as tie
 
 -- no bit of the scaled divisor passes the word
 kept : (c : tie.After-scale-of) → let n = c .before .args .y * 2 ^ c .scale-of .result in n % 2 ^ 64 ≡ n
-kept c = mod-eq-of-lt (omega (arith, c .scale-of .ensures .2))
+kept c = mod-eq-of-lt (omega (arith, c .scale-of .ensures .3))
+
+-- nor of x, scaled as the divisor is
+kept-x : (c : tie.After-scale-of) → let a = c .before .args in let s = c .scale-of .result in (a .x * 2 ^ s < 2 * (a .y * 2 ^ s)) × (a .x * 2 ^ s % 2 ^ 64 ≡ a .x * 2 ^ s)
+kept-x c =
+    let l = times-le (2 ^ c .scale-of .result) (c .before .pre .0) in
+    (omega (arith, l, pow-pos (c .scale-of .result)), mod-eq-of-lt (omega (arith, l, c .scale-of .ensures .3)))
 
 -- and the test sets the power of two aside
 above : (c : tie.Else1) → 2 ^ 61 < c .before .before .args .y * 2 ^ c .before .scale-of .result
@@ -19,15 +27,15 @@ above c = omega (arith, kept (c .before))
 by-words-requires : tie.Need-by-words-requires
 by-words-requires c κs =
     let o = c .before .before in
-    let (l, a, b, g) = o .scale-of .ensures in
-    rw (kept o) (above (c .before), b, omega arith, c .start .ensures)
+    let (z, l, a, b, g) = o .scale-of .ensures in
+    rw (kept o, kept-x o .1) (above (c .before), b, kept-x o .0, c .start .ensures)
 
 returns-2 : tie.Need-returns-2
 returns-2 c =
     let o = c .before .before .before in
     let a = o .before .args in
     let s = o .scale-of .result in
-    ap (λ r. r / 2 ^ s) (c .by-words .ensures ∙ ap (λ n. a .x * 2 ^ (a .e + s) % n) (kept o)) ∙ left-scaled-back (a .x) (a .e) (a .y) s (omega arith)
+    ap (λ r. r / 2 ^ s) (c .by-words .ensures ∙ ap₂ (λ v n. v * 2 ^ a .e % n) (kept-x o .1) (kept o)) ∙ left-scaled-back (a .x) (a .e) (a .y) s (omega arith)
 
 by-power-requires : tie.Need-by-power-requires
 by-power-requires c κs =
@@ -46,11 +54,14 @@ shl-n c = search needs
 returns : tie.Need-returns
 returns c = search needs
 
-add-by-words : tie.Need-add-by-words
-add-by-words c = search needs
+cast-by-words : tie.Need-cast-by-words
+cast-by-words c = search needs
+
+shl-by-words : tie.Need-shl-by-words
+shl-by-words c = search needs
 
 start-requires : tie.Need-start-requires
-start-requires c κs = let (l, a, b, g) = c .before .scale-of .ensures in (l, above c, b)
+start-requires c κs = let (z, l, a, b, g) = c .before .scale-of .ensures in (l, above c, b)
 
 cast-result : tie.Need-cast-result
 cast-result c = search needs
@@ -60,4 +71,4 @@ shr-result c = search needs
 
 pub linear-mul-reduction-spec : {M : Type 1} → statement M
 linear-mul-reduction-spec =
-    tie.close (tie.spec scale-of-requires cast-n shl-n by-power-requires returns add-by-words start-requires by-words-requires cast-result shr-result returns-2)
+    tie.close (tie.spec scale-of-requires cast-n shl-n by-power-requires returns cast-by-words shl-by-words start-requires by-words-requires cast-result shr-result returns-2)
