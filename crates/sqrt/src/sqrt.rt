@@ -56,7 +56,7 @@ fn sqrt_special(frac: u32, expo: u32, x: u64) -> u64
 // The root of any pattern of any format, by digits.
 pub fn sqrt_pattern(frac: u32, expo: u32, x: u64) -> u64
     requires { ⌜ Fits frac expo × Pattern (format frac expo) x ⌝ }
-    ensures { λ r. ⌜ r ≡ sqrtOf (format frac expo) x ⌝ }
+    ensures { λ r. ⌜ (r ≡ sqrtOf (format frac expo) x) × Pattern (format frac expo) r ⌝ }
 {
     if has_no_root(frac, expo, x) {
         return sqrt_special(frac, expo, x);
