@@ -105,7 +105,7 @@ module _ (f : Format) (g : Fair f) (l x y z : ℕ) (ox : Ordinary f x) (oy : Ord
       ∙ sum-answer f ties-to-even l (low f) (fusedExp f l x y z) two room t at (against f x y z) c (fusedSign f l x y z) some
 
 -- ---- the product alone
-joined-nothing : (u : Bool) (a : ℕ) → joined u a 0 ≡ a
+pub joined-nothing : (u : Bool) (a : ℕ) → joined u a 0 ≡ a
 joined-nothing false a = omega arith
 joined-nothing true a = omega arith
 

@@ -23,7 +23,7 @@ use Rattle.round_wide.proofs.Stuck.{stuck-none, stuck-le}
 use Rattle.fma_laws.specs.Aligned.{productAt, thirdAt, downBy, joined, joinedSign, addedSteps, addedSign, addedExp}
 use Rattle.fma_laws.specs.Fused.{productSig, productExp, thirdSig, thirdSigOf, thirdExpOf, lowest, fusedSteps, fusedSign, roundedSum}
 use Rattle.fma_laws.proofs.Sums.{sign-first}
-use Rattle.fma_laws.proofs.Fused.{fused-none, fused-own, product-twice}
+use Rattle.fma_laws.proofs.Fused.{fused-none, fused-own, joined-nothing, product-twice}
 use Rattle.fma_laws.proofs.Room.{product-small, product-some}
 
 -- ---- a sum rounded
@@ -55,10 +55,6 @@ unfolding thirdAt
 nothing-comes l (pos n) = omega arith
 nothing-comes l (negsuc n) = let h = stuck-le 0 (suc n) in omega arith
 
-nothing-joined : (u : Bool) (a : ℕ) → joined u a 0 ≡ a
-nothing-joined false a = omega arith
-nothing-joined true a = omega arith
-
 -- ---- x and y are numbers that are not zero, and z is a number
 module _ {p e : ℕ} (w : Fits p e) (l : ℕ) (two : 2 ≤ p) (room : 2 + p ≤ l) (x y z : ℕ) (ox : Ordinary (format p e) x) (oy : Ordinary (format p e) y) where
   abbrev f : Format
@@ -86,7 +82,7 @@ module _ {p e : ℕ} (w : Fits p e) (l : ℕ) (two : 2 ≤ p) (room : 2 + p ≤ 
       let (a, b) = product-stays l P d under in
       let n = nothing-comes l d in
       (λ i. roundedSum f (joinedSign S (minus f z) (a i) (n i)) (joined (unlike S (minus f z)) (a i) (n i)) (E +ℤ pos (b i)))
-      ∙ (λ i. roundedSum f (sign-first S (minus f z) P 0 (omega arith) i) (nothing-joined (unlike S (minus f z)) P i) (E +ℤ pos 0))
+      ∙ (λ i. roundedSum f (sign-first S (minus f z) P 0 (omega arith) i) (joined-nothing (unlike S (minus f z)) P i) (E +ℤ pos 0))
       ∙ rounded-some f S P (E +ℤ pos 0) (product-some f (w .fair) x y ox oy)
       ∙ sym (product-twice f (w .fair) x y z ox oy h)
 
