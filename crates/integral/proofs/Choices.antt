@@ -84,16 +84,21 @@ module _ {p e : ℕ} (w : Fits p e) where
   full : 2 ^ (p + e) * 2 ^ room ≡ 2 ^ 64
   full = let a : p + e + room ≡ 64 = omega (arith, w .word) in sym (pow-add 2 (p + e) room) ∙ ap (λ n. 2 ^ n) a
 
-  sign-out : (x : ℕ) → x * 2 ^ room % 2 ^ 64 ≡ magnitude (format p e) x * 2 ^ room
+  pub sign-out : (x : ℕ) → x * 2 ^ room % 2 ^ 64 ≡ magnitude (format p e) x * 2 ^ room
   sign-out x =
       let (d, l) = div-mod x (2 ^ (p + e)) (pow-pos (p + e)) in
       mod-is (x * 2 ^ room) (2 ^ 64) (x / 2 ^ (p + e)) (magnitude (format p e) x * 2 ^ room) (omega (arith, times-le (2 ^ room) l, full, pow-pos room)) (omega (arith, times (2 ^ room) d, times (x / 2 ^ (p + e)) full))
 
-  inf-out : inf (format p e) * 2 ^ room % 2 ^ 64 ≡ inf (format p e) * 2 ^ room
-  inf-out = sign-out (inf (format p e)) ∙ times (2 ^ room) (mod-eq-of-lt (inf-below-top (format p e)))
+  -- infinity has no sign to shift out
+  inf-out : (i j : ℕ) → i ≡ inf (format p e) → j ≡ magnitude (format p e) i * 2 ^ room → j ≡ inf (format p e) * 2 ^ room
+  inf-out i j a b = b ∙ times (2 ^ room) (ap (magnitude (format p e)) a ∙ mod-eq-of-lt (inf-below-top (format p e)))
 
-  pub past-is-nan : (x i : ℕ) → i ≡ inf (format p e) → i * 2 ^ room % 2 ^ 64 < x * 2 ^ room % 2 ^ 64 → oneNan (format p e) x ≡ canonical (format p e)
-  past-is-nan x i a h = past-infinity (format p e) x (mul-lt-cancel (inf (format p e)) (magnitude (format p e) x) (2 ^ room) (rw (sym a) (omega (arith, sign-out x, inf-out, times (2 ^ room) a))))
+  pub past-is-nan : (x i j : ℕ) → i ≡ inf (format p e) → j ≡ magnitude (format p e) i * 2 ^ room → j < magnitude (format p e) x * 2 ^ room → oneNan (format p e) x ≡ canonical (format p e)
+  past-is-nan x i j a b h = past-infinity (format p e) x (mul-lt-cancel (inf (format p e)) (magnitude (format p e) x) (2 ^ room) (omega (arith, inf-out i j a b)))
 
-  pub rest-stays : (x i : ℕ) → i ≡ inf (format p e) → x * 2 ^ room % 2 ^ 64 ≤ i * 2 ^ room % 2 ^ 64 → oneNan (format p e) x ≡ x
-  rest-stays x i a h = not-past (format p e) x (mul-le-cancel (magnitude (format p e) x) (inf (format p e)) (2 ^ room) (pow-pos room) (rw (sym a) (omega (arith, sign-out x, inf-out, times (2 ^ room) a))))
+  pub rest-stays : (x i j : ℕ) → i ≡ inf (format p e) → j ≡ magnitude (format p e) i * 2 ^ room → magnitude (format p e) x * 2 ^ room ≤ j → oneNan (format p e) x ≡ x
+  rest-stays x i j a b h = not-past (format p e) x (mul-le-cancel (magnitude (format p e) x) (inf (format p e)) (2 ^ room) (pow-pos room) (omega (arith, inf-out i j a b)))
+
+  -- a shifted magnitude is 0 exactly where the magnitude is
+  pub none-out : (x : ℕ) → magnitude (format p e) x * 2 ^ room ≡ 0 → magnitude (format p e) x ≡ 0
+  none-out x z = omega (arith, mul-le-cancel (magnitude (format p e) x) 0 (2 ^ room) (pow-pos room) (omega (arith, z)))

@@ -1,10 +1,11 @@
 -- Masks: the last bits of a word, all set. Assumes nothing.
 use Prim.Native.Nat.{ℕ, suc, _-_, _*_, _/_, _%_, _^_, _≤_, _<_}
 use mathlib.Core.Path.{_≡_, sym, ap, _∙_}
+use native.Mathlib.Nat.{mod-eq-of-lt}
 use native.Mathlib.Omega.{arith}
 use lib.Pow.{pow-pos, pow-mono}
 use lib.Bits.{bitAnd, and-mask}
-use Rattle.algebra.proofs.Products.{order, diff}
+use Rattle.algebra.proofs.Products.{order, times, diff}
 use Rattle.algebra.proofs.Quotients.{div-mod, div-is}
 use Rattle.algebra.proofs.Powers.{pow-diff}
 use Rattle.integral.specs.Point.{behindOf, Mask}
@@ -37,6 +38,24 @@ pub under-is : (v b : ℕ) → Mask b → bitAnd v b ≡ v % suc b
 under-is v b (k, e) =
     let d : b ≡ 2 ^ k - 1 = omega arith in
     ap (bitAnd v) d ∙ and-mask v k ∙ ap (λ m. v % m) (sym e)
+
+-- a word of ones without the bits under a mask
+pub ones-without : (b : ℕ) → b < 2 ^ 64 → Mask b → (2 ^ 64 - 1) / suc b * suc b ≡ 2 ^ 64 - suc b
+ones-without b l (k, e) =
+    order k 64
+    (λ h.
+    let d = diff {a = 2 ^ (64 - k)} {b = 1} (2 ^ k) (pow-pos (64 - k)) in
+    ap (λ n. (2 ^ 64 - 1) / n * n) e
+    ∙ times (2 ^ k) (shifted 64 k h)
+    ∙ omega (arith, pow-diff {a = 64} {b = k} h))
+    (λ h. absurd (omega (arith, pow-mono {i = 65} {j = k} h)))
+
+-- under a word of ones all of v, under none nothing
+pub under-ones : (v : ℕ) → v < 2 ^ 64 → bitAnd v (2 ^ 64 - 1) ≡ v
+under-ones v l = and-mask v 64 ∙ mod-eq-of-lt l
+
+pub under-none : (v : ℕ) → bitAnd v 0 ≡ 0
+under-none v = and-mask v 0 ∙ omega arith
 
 pub without-is : (v b r : ℕ) → r ≡ v % suc b → v - r ≡ v / suc b * suc b
 without-is v b r e = omega (arith, div-mod v (suc b) (omega arith))

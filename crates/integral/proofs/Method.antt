@@ -4,10 +4,11 @@ use mathlib.Core.Path.{_≡_, refl, sym, ap, _∙_}
 use mathlib.Core.Bool.{true, cond}
 use native.Mathlib.Nat.{mod-eq-of-lt}
 use native.Mathlib.Omega.{arith, both-ways}
+use lib.Bits.{bitAnd}
 use lib.Pow.{pow-pos, pow-mono}
-use borrow.Author.Tests.{le-leb, lt-leb, lt-ltb, le-ltb}
+use borrow.Author.Tests.{le-leb, lt-leb, eq-eqb, ne-eqb}
 use Rattle.algebra.proofs.Products.{order, times, times-le}
-use Rattle.algebra.proofs.Quotients.{div-mod, mod-is}
+use Rattle.algebra.proofs.Quotients.{div-mod, div-is, mod-is}
 use Rattle.ieee.specs.Format.{Format, Fair, top, bias, low, inf, units}
 use Rattle.ieee.specs.Pattern.{Pattern, minus, magnitude, field, signed, finite}
 use Rattle.ieee.specs.Round.{toward-zero, toward-negative, wayOf}
@@ -20,11 +21,11 @@ use Rattle.ieee.proofs.WholeParts.{zero-stays}
 use Rattle.ieee.proofs.Wholes.{longer-one}
 use Rattle.ieee.proofs.WholeStatuses.{trunc-status-rows}
 use Rattle.fmt_fields.specs.Width.{format, Fits}
-use Rattle.integral.specs.Point.{exponentOf, behindOf, byPoint, oneNan, Tail}
-use Rattle.integral.proofs.Masks.{behind-part}
+use Rattle.integral.specs.Point.{exponentOf, behindOf, byPoint, oneNan, Mask, Tail}
+use Rattle.integral.proofs.Masks.{behind-part, ones-without, under-ones, under-none}
 use Rattle.integral.proofs.Choices.{at-below, at-part, at-whole, by-cases, not-past, exponent-at}
-use Rattle.integral.specs.Floors.{belowOne, filled}
-use Rattle.integral.proofs.Scaled.{longer-scaled}
+use Rattle.integral.specs.Floors.{belowOne, signMask, cutDown}
+use Rattle.integral.proofs.Scaled.{longer-scaled, cut-after}
 use Rattle.integral.proofs.WholeParts.{wholeIn-at, stays, units-one, below-one, far, part-bits, part-cut, shorter-all, shorter-part}
 
 -- ---- trunc
@@ -111,22 +112,25 @@ module _ (f : Format) (g : Fair f) (x : ℕ) (p : Pattern f x) where
       wholeIn-at f g toward-negative x (bias f * 2 ^ f .frac) (omega arith) b (units-one f g ∙ omega (arith, times (2 ^ low f) v))
       ∙ ap (λ t. signed f t (bias f * 2 ^ f .frac)) s
 
-  -- -0 is its own floor
-  minus-zero : x ≡ top f → floorOf f x ≡ x
+  -- a zero is its own floor
+  zero-floor : magnitude f x ≡ 0 → floorOf f x ≡ x
   unfolding floorOf
-  minus-zero z =
-      let m : magnitude f x ≡ 0 = omega (arith, minus-magnitude (omega arith)) in
-      zero-stays f toward-negative x p (kind-finite f x (omega (arith, one-below-infinity f g)) ∙ ap finite (ap (units f) m ∙ units-zero f))
+  zero-floor m = zero-stays f toward-negative x p (kind-finite f x (omega (arith, one-below-infinity f g)) ∙ ap finite (ap (units f) m ∙ units-zero f))
+
+  above-zero : x < top f → field f x < bias f → floorOf f x ≡ 0
+  unfolding floorOf
+  above-zero l h = shorter-all f g toward-negative x p (ap (wayOf toward-negative) (lt-leb (top f) x l)) h ∙ omega (arith, mod-eq-of-lt l)
 
   floor-below : field f x < bias f → belowOne f x ≡ floorOf f x
-  unfolding belowOne floorOf
+  unfolding belowOne
   floor-below h =
-      order x (top f)
-      (λ l. ap (λ t. cond t (top f + bias f * 2 ^ f .frac) (x - magnitude f x)) (le-ltb (top f) x l)
+      let o = top f + bias f * 2 ^ f .frac in
+      order (magnitude f x) 0
+      (λ z. let m : magnitude f x ≡ 0 = omega arith in ap (λ t. cond t x (cond (minus f x) o 0)) (eq-eqb (magnitude f x) 0 m) ∙ sym (zero-floor m))
+      (λ z. ap (λ t. cond t x (cond (minus f x) o 0)) (ne-eqb (magnitude f x) 0 (omega arith))
       ∙ order (top f) x
-      (λ i. omega (arith, minus-magnitude i) ∙ sym (minus-zero (both-ways x (top f) l i)))
-      (λ i. sym (shorter-all f g toward-negative x p (ap (wayOf toward-negative) (lt-leb (top f) x i)) h)))
-      (λ l. ap (λ t. cond t (top f + bias f * 2 ^ f .frac) (x - magnitude f x)) (lt-ltb (top f) x l) ∙ sym (minus-one l h))
+      (λ l. ap (λ t. cond t o 0) (le-leb (top f) x l) ∙ sym (minus-one (omega (arith, minus-magnitude l)) h))
+      (λ l. ap (λ t. cond t o 0) (lt-leb (top f) x l) ∙ sym (above-zero l h)))
 
   -- a point within the fraction
   floor-plus : (b : ℕ) → x < top f → Part f x b → bias f ≤ field f x → x / suc b * suc b ≡ floorOf f x
@@ -148,14 +152,20 @@ module _ (f : Format) (g : Fair f) (x : ℕ) (p : Pattern f x) where
       ∙ sym (part-cut f g toward-negative x (q .k) (2 ^ q .k - 1) p h (q .some) (q .stands) (omega (arith, pow-pos (q .k)))
       (λ n t z. ap (λ c. whole (wayOf toward-negative c) (n * t) (2 ^ q .k * t)) s ∙ longer-scaled n (2 ^ q .k) t (pow-pos (q .k)) z))
 
-  floor-part : (b : ℕ) → 2 * top f ≤ 2 ^ 64 → Part f x b → bias f ≤ field f x → filled f x b / suc b * suc b ≡ floorOf f x
-  unfolding filled
+  -- less one, cut, and one above the mask more is the mask added, and then cut
+  up-by-one : (b : ℕ) → top f ≤ x → (x - 1) / suc b * suc b + suc b ≡ (x + b) / suc b * suc b
+  up-by-one b l = let e : x + b ≡ 1 * suc b + (x - 1) = omega (arith, pow-pos (f .frac + f .expo)) in omega (arith, ap (λ n. n / suc b * suc b) e, cut-after 1 (x - 1) (suc b) (omega arith))
+
+  floor-part : (b : ℕ) → 2 * top f ≤ 2 ^ 64 → Part f x b → bias f ≤ field f x → cutDown f x b ≡ floorOf f x
+  unfolding cutDown
   floor-part b w q h =
+      let d = suc b in
       order (top f) x
-      (λ l. ap (λ t. cond t ((x + b) % 2 ^ 64) x / suc b * suc b) (le-leb (top f) x l)
-      ∙ ap (λ y. y / suc b * suc b) (mod-eq-of-lt (omega (arith, filled-fits b l q h)))
+      (λ l. ap (λ t. cond t (((x - 1) / d * d + d) % 2 ^ 64) (x / d * d)) (le-leb (top f) x l)
+      ∙ mod-eq-of-lt (omega (arith, up-by-one b l, filled-fits b l q h, div-mod (x + b) d (omega arith)))
+      ∙ up-by-one b l
       ∙ floor-minus b l q h)
-      (λ l. ap (λ t. cond t ((x + b) % 2 ^ 64) x / suc b * suc b) (lt-leb (top f) x l) ∙ floor-plus b l q h)
+      (λ l. ap (λ t. cond t (((x - 1) / d * d + d) % 2 ^ 64) (x / d * d)) (lt-leb (top f) x l) ∙ floor-plus b l q h)
 
 pattern-room : {p e : ℕ} → Fits p e → 2 * top (format p e) ≤ 2 ^ 64
 pattern-room {p} {e} w = omega (arith, pow-mono {i = p + e} {j = 63} (w .word))
@@ -165,13 +175,52 @@ pub minus-one-fits : {p e : ℕ} → Fits p e → top (format p e) + bias (forma
 minus-one-fits {p} {e} w = omega (arith, one-below-infinity (format p e) (w .fair), inf-below-top (format p e), pattern-room w)
 
 pub floor-by-point : {p e : ℕ} → Fits p e → (x : ℕ) → Pattern (format p e) x → let b = behindOf p (exponentOf (format p e) x) in
-    byPoint (format p e) x (belowOne (format p e) x) (filled (format p e) x b / suc b * suc b) (oneNan (format p e) x) ≡ floorOf (format p e) x
+    byPoint (format p e) x (belowOne (format p e) x) (cutDown (format p e) x b) (oneNan (format p e) x) ≡ floorOf (format p e) x
 unfolding floorOf
 floor-by-point {p} {e} w x i =
     let f = format p e in
     let g = w .fair in
     let b = behindOf p (exponentOf f x) in
     by-cases f x
-    (λ h. at-below f x (belowOne f x) (filled f x b / suc b * suc b) (oneNan f x) h ∙ floor-below f g x i h)
-    (λ l h. at-part f x (belowOne f x) (filled f x b / suc b * suc b) (oneNan f x) l h ∙ floor-part f g x i b (pattern-room w) (part-of w x l h) l)
-    (λ h. at-whole f x (belowOne f x) (filled f x b / suc b * suc b) (oneNan f x) h ∙ sym (stays f g toward-negative x i h))
+    (λ h. at-below f x (belowOne f x) (cutDown f x b) (oneNan f x) h ∙ floor-below f g x i h)
+    (λ l h. at-part f x (belowOne f x) (cutDown f x b) (oneNan f x) l h ∙ floor-part f g x i b (pattern-room w) (part-of w x l h) l)
+    (λ h. at-whole f x (belowOne f x) (cutDown f x b) (oneNan f x) h ∙ sym (stays f g toward-negative x i h))
+
+-- ---- in words, by a word of ones where x is negative
+pub sign-in-words : {p e : ℕ} → Fits p e → (x r : ℕ) → Pattern (format p e) x → r < 2 ^ 64 → (r + x / top (format p e)) % 2 ^ 64 ≡ 0 → r ≡ signMask (format p e) x
+unfolding signMask
+sign-in-words {p} {e} w x r i l z =
+    let f = format p e in
+    order (top f) x
+    (λ h. omega (arith, z, div-is x (top f) 1 (x - top f) (omega arith) (omega arith) .0) ∙ sym (ap (λ t. cond t (2 ^ 64 - 1) 0) (le-leb (top f) x h)))
+    (λ h. omega (arith, z, div-is x (top f) 0 x h (omega arith) .0) ∙ sym (ap (λ t. cond t (2 ^ 64 - 1) 0) (lt-leb (top f) x h)))
+
+-- a word under it
+pub under-sign : (f : Format) (v s x : ℕ) → v < 2 ^ 64 → s ≡ signMask f x → bitAnd v s ≡ cond (minus f x) v 0
+unfolding signMask
+under-sign f v s x l e =
+    ap (bitAnd v) e
+    ∙ order (top f) x
+    (λ h. let t = le-leb (top f) x h in ap (λ c. bitAnd v (cond c (2 ^ 64 - 1) 0)) t ∙ under-ones v l ∙ sym (ap (λ c. cond c v 0) t))
+    (λ h. let t = lt-leb (top f) x h in ap (λ c. bitAnd v (cond c (2 ^ 64 - 1) 0)) t ∙ under-none v ∙ sym (ap (λ c. cond c v 0) t))
+
+-- the cut: less one, and one more above the mask, by a word of ones
+pub cut-in-words : (f : Format) (x b s r : ℕ) → x < 2 ^ 64 → b < 2 ^ 64 → r < 2 ^ 64 → Mask b → s ≡ signMask f x →
+    (r + s / suc b * suc b) % 2 ^ 64 ≡ (x + s) % 2 ^ 64 / suc b * suc b → r ≡ cutDown f x b
+unfolding signMask cutDown
+cut-in-words f x b s r l i j m e z =
+    let d : ℕ = suc b in
+    order (top f) x
+    (λ h.
+    let t = le-leb (top f) x h in
+    let o : s ≡ 2 ^ 64 - 1 = e ∙ ap (λ c. cond c (2 ^ 64 - 1) 0) t in
+    let y : (x + s) % 2 ^ 64 ≡ x - 1 = omega (arith, pow-pos (f .frac + f .expo)) in
+    let k = ap (λ n. n / d * d) o ∙ ones-without b i m in
+    omega (arith, z, k, ap (λ n. n / d * d) y, div-mod (x - 1) d (omega arith))
+    ∙ sym (ap (λ c. cond c (((x - 1) / d * d + d) % 2 ^ 64) (x / d * d)) t))
+    (λ h.
+    let t = lt-leb (top f) x h in
+    let o : s ≡ 0 = e ∙ ap (λ c. cond c (2 ^ 64 - 1) 0) t in
+    let y : (x + s) % 2 ^ 64 ≡ x = omega arith in
+    omega (arith, z, ap (λ n. n / d * d) o, div-mod 0 d (omega arith), ap (λ n. n / d * d) y, div-mod x d (omega arith))
+    ∙ sym (ap (λ c. cond c (((x - 1) / d * d + d) % 2 ^ 64) (x / d * d)) t))

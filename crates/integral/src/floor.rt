@@ -4,44 +4,50 @@ ghost use Rattle.ieee.specs.Format.{b64, b32};
 ghost use Rattle.ieee.specs.Pattern.{Pattern};
 ghost use Rattle.ieee.specs.Whole.{floorOf, floorStatus};
 ghost use Rattle.fmt_fields.specs.Width.{format, Fits};
-ghost use Rattle.integral.specs.Floors.{belowOne, filled};
+ghost use Rattle.integral.specs.Point.{Mask};
+ghost use Rattle.integral.specs.Floors.{belowOne, signMask, cutDown};
 use crate::point::bias;
 use crate::point::canonicalise;
 use crate::point::choose_by_point;
 use crate::point::clear_under;
 use crate::point::exponent_of;
 use crate::point::fraction_mask;
-use crate::point::signed_zero;
+use crate::point::shift_sign_out;
 use crate::status::status;
 use fmt_fields::env::FpResult32;
 use fmt_fields::env::FpResult64;
-use fmt_fields::is_negative;
 use word_bits::pow;
 
-// Between -1 and 1: -1 below -0, otherwise a zero.
-fn floor_below_one(frac: u32, expo: u32, x: u64) -> u64
-    requires { ⌜ Fits frac expo ⌝ }
-    ensures { λ r. ⌜ r ≡ belowOne (format frac expo) x ⌝ }
+// All ones where x is negative, otherwise 0.
+fn sign_mask(frac: u32, expo: u32, x: u64) -> u64
+    requires { ⌜ Fits frac expo × Pattern (format frac expo) x ⌝ }
+    ensures { λ r. ⌜ r ≡ signMask (format frac expo) x ⌝ }
 {
-    let top = pow(frac + expo);
-    let minus_one = top + bias(expo) * pow(frac);
-    let zero = signed_zero(frac, expo, x);
-    if x > top {
-        return minus_one;
-    }
-    zero
+    std::num::wrapping_sub_u64(0, x / pow(frac + expo))
 }
 
-// Where x is negative, adds the mask, so that cutting the bits under it rounds away from zero.
-fn add_mask_if_negative(frac: u32, expo: u32, x: u64, mask: u64) -> u64
-    requires { ⌜ Fits frac expo ⌝ }
-    ensures { λ r. ⌜ r ≡ filled (format frac expo) x mask ⌝ }
+// Between -1 and 1: a zero stays; what is below it goes down to -1, what is above it to +0.
+fn floor_below_one(frac: u32, expo: u32, x: u64) -> u64
+    requires { ⌜ Fits frac expo × Pattern (format frac expo) x ⌝ }
+    ensures { λ r. ⌜ r ≡ belowOne (format frac expo) x ⌝ }
 {
-    let up = std::num::wrapping_add_u64(x, mask);
-    if is_negative(frac, expo, x) {
-        return up;
+    let minus_one = pow(frac + expo) + bias(expo) * pow(frac);
+    let down = minus_one & sign_mask(frac, expo, x);
+    if shift_sign_out(frac, expo, x) == 0 {
+        return x;
     }
-    x
+    down
+}
+
+// x without the bits under a mask, which of a negative x go away from zero: less one, and then one more above the mask. Both are by the
+// same word, all ones or 0, so that no jump is needed.
+fn cut_down(frac: u32, expo: u32, x: u64, mask: u64) -> u64
+    requires { ⌜ Fits frac expo × Pattern (format frac expo) x × Mask mask ⌝ }
+    ensures { λ r. ⌜ r ≡ cutDown (format frac expo) x mask ⌝ }
+{
+    let sign = sign_mask(frac, expo, x);
+    let less = std::num::wrapping_add_u64(x, sign);
+    std::num::wrapping_sub_u64(clear_under(less, mask), clear_under(sign, mask))
 }
 
 fn floor_pattern(frac: u32, expo: u32, x: u64) -> u64
@@ -50,7 +56,7 @@ fn floor_pattern(frac: u32, expo: u32, x: u64) -> u64
 {
     let n = exponent_of(frac, expo, x);
     let mask = fraction_mask(frac, n);
-    let part = clear_under(add_mask_if_negative(frac, expo, x, mask), mask);
+    let part = cut_down(frac, expo, x, mask);
     let below = floor_below_one(frac, expo, x);
     let one = canonicalise(frac, expo, x);
     choose_by_point(frac, expo, x, n, below, part, one)

@@ -1,12 +1,11 @@
 // Where the point stands in a pattern, and choices by it, for trunc and floor. Nothing here needs a jump.
 ghost use mathlib.Core.Path.{_≡_};
-ghost use Prim.Native.Nat.{suc, _*_, _/_, _%_, _-_, _≤_, _<_, _^_};
+ghost use Prim.Native.Nat.{suc, _+_, _-_, _*_, _/_, _%_, _≤_, _<_, _^_};
 ghost use Rattle.ieee.specs.Pattern.{magnitude};
 ghost use Rattle.fmt_fields.specs.Width.{format, Fits};
 ghost use Rattle.integral.specs.Point.{exponentOf, behindOf, byPoint, tailOf, oneNan, Mask};
 use fmt_fields::exponent_field;
 use fmt_fields::pattern::infinity;
-use fmt_fields::pattern::magnitude_of;
 use fmt_fields::pattern::nan;
 use word_bits::pow;
 
@@ -82,22 +81,22 @@ pub fn tail_mask(frac: u32, expo: u32, x: u64) -> u64
     choose_by_point(frac, expo, x, n, all, fraction_mask(frac, n), 0)
 }
 
-// The zero with the sign of x.
-pub fn signed_zero(frac: u32, expo: u32, x: u64) -> u64
+// The magnitude at the top of a word: the sign is shifted out.
+pub fn shift_sign_out(frac: u32, expo: u32, x: u64) -> u64
     requires { ⌜ Fits frac expo ⌝ }
-    ensures { λ r. ⌜ r ≡ x - magnitude (format frac expo) x ⌝ }
+    ensures { λ r. ⌜ r ≡ magnitude (format frac expo) x * 2 ^ (64 - (frac + expo)) ⌝ }
 {
-    x - magnitude_of(frac, expo, x)
+    x << (64 - (frac + expo))
 }
 
-// x, or the canonical NaN for every NaN. A NaN exceeds infinity once the sign is shifted out.
+// x, or the canonical NaN for every NaN, whose magnitude exceeds infinity.
 pub fn canonicalise(frac: u32, expo: u32, x: u64) -> u64
     requires { ⌜ Fits frac expo ⌝ }
     ensures { λ r. ⌜ r ≡ oneNan (format frac expo) x ⌝ }
 {
     let one = nan(frac, expo);
-    let sign = 64 - (frac + expo);
-    if x << sign > infinity(frac, expo) << sign {
+    let inf = shift_sign_out(frac, expo, infinity(frac, expo));
+    if shift_sign_out(frac, expo, x) > inf {
         return one;
     }
     x

@@ -1,5 +1,4 @@
 -- The choice by the point is floor (Method). Assumes nothing.
-use Prim.Native.Nat.{suc, _*_, _/_}
 use mathlib.Core.Path.{_≡_, sym, ap, _∙_, subst}
 use borrow.Author.Needs.{needs}
 use Rattle.ieee.specs.Pattern.{Pattern}
@@ -8,7 +7,7 @@ use Rattle.ieee.proofs.Wholes.{floor-pattern}
 use Rattle.fmt_fields.specs.Width.{format}
 use Rattle.integral.specs.Point.{exponentOf, behindOf, byPoint, Mask}
 use Rattle.integral.proofs.Masks.{behind-mask}
-use Rattle.integral.specs.Floors.{filled}
+use Rattle.integral.specs.Floors.{cutDown}
 use Rattle.integral.proofs.Method.{floor-by-point}
 use Rattle.integral.proofs.floor.floor_pattern.Statement.{statement}
 use Rattle.integral.proofs.floor.floor_pattern.Tie as tie
@@ -19,18 +18,14 @@ exponent-of-requires c κs = search needs
 fraction-mask-requires : tie.Need-fraction-mask-requires
 fraction-mask-requires c κs = search needs
 
-add-mask-if-negative-requires : tie.Need-add-mask-if-negative-requires
-add-mask-if-negative-requires c κs = search needs
-
 -- the mask is the definition's
 mask-is : (c : tie.After-fraction-mask) → let s = c .before .before .args in c .fraction-mask .result ≡ behindOf (s .frac) (exponentOf (format (s .frac) (s .expo)) (s .x))
 mask-is c = c .fraction-mask .ensures ∙ ap (behindOf (c .before .before .args .frac)) (c .before .exponent-of .ensures)
 
-clear-under-requires : tie.Need-clear-under-requires
-clear-under-requires c κs =
-    let m = c .before in
-    let s = m .before .before .args in
-    subst Mask (sym (mask-is m)) (behind-mask (s .frac) (exponentOf (format (s .frac) (s .expo)) (s .x)))
+cut-down-requires : tie.Need-cut-down-requires
+cut-down-requires c κs =
+    let s = c .before .before in
+    (s .pre .0, s .pre .1, subst Mask (sym (mask-is c)) (behind-mask (s .args .frac) (exponentOf (format (s .args .frac) (s .args .expo)) (s .args .x))))
 
 floor-below-one-requires : tie.Need-floor-below-one-requires
 floor-below-one-requires c κs = search needs
@@ -45,15 +40,14 @@ returns : tie.Need-returns
 returns c =
     let o = c .before in
     let l = o .before in
-    let w = l .before in
-    let u = w .before in
+    let u = l .before in
     let m = u .before in
     let s = m .before .before in
     let f = format (s .args .frac) (s .args .expo) in
     let x = s .args .x in
-    let part = w .clear-under .ensures ∙ ap (λ y. y / suc (m .fraction-mask .result) * suc (m .fraction-mask .result)) (u .add-mask-if-negative .ensures) ∙ ap (λ b. filled f x b / suc b * suc b) (mask-is m) in
+    let part = u .cut-down .ensures ∙ ap (cutDown f x) (mask-is m) in
     let e : c .choose-by-point .result ≡ floorOf f x = c .choose-by-point .ensures ∙ (λ i. byPoint f x (l .floor-below-one .ensures i) (part i) (o .canonicalise .ensures i)) ∙ floor-by-point (s .pre .0) x (s .pre .1) in
     (e, subst (Pattern f) (sym e) (floor-pattern f (s .pre .0 .fair) x (s .pre .1)))
 
 pub floor-pattern-spec : {M : Type 1} → statement M
-floor-pattern-spec = tie.close (tie.spec exponent-of-requires fraction-mask-requires add-mask-if-negative-requires clear-under-requires floor-below-one-requires canonicalise-requires choose-by-point-requires returns)
+floor-pattern-spec = tie.close (tie.spec exponent-of-requires fraction-mask-requires cut-down-requires floor-below-one-requires canonicalise-requires choose-by-point-requires returns)

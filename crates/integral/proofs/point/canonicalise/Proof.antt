@@ -1,5 +1,6 @@
 -- A NaN's magnitude exceeds infinity's, also when both are shifted (Choices). Assumes nothing.
 use mathlib.Core.Path.{sym, _∙_}
+use native.Mathlib.Omega.{arith}
 use borrow.Author.Needs.{needs}
 use Rattle.integral.proofs.Choices.{past-is-nan, rest-stays}
 use Rattle.integral.proofs.point.canonicalise.Statement.{statement}
@@ -8,38 +9,30 @@ use Rattle.integral.proofs.point.canonicalise.Tie as tie
 nan-requires : tie.Need-nan-requires
 nan-requires c κs = search needs
 
-add-sign : tie.Need-add-sign
-add-sign c = search needs
-
-sub-sign : tie.Need-sub-sign
-sub-sign c = search needs
-
-cast-if1 : tie.Need-cast-if1
-cast-if1 c = search needs
-
-shl-if1 : tie.Need-shl-if1
-shl-if1 c = search needs
-
 infinity-requires : tie.Need-infinity-requires
 infinity-requires c κs = search needs
 
-cast-if1-2 : tie.Need-cast-if1-2
-cast-if1-2 c = search needs
+shift-sign-out-requires : tie.Need-shift-sign-out-requires
+shift-sign-out-requires c κs = search needs
 
-shl-if1-2 : tie.Need-shl-if1-2
-shl-if1-2 c = search needs
+shift-sign-out-requires-2 : tie.Need-shift-sign-out-requires-2
+shift-sign-out-requires-2 c κs = search needs
 
 returns : tie.Need-returns
 returns c =
     let o = c .before in
-    let s = o .before .before in
-    o .before .nan .ensures ∙ sym (past-is-nan (s .pre) (s .args .x) (o .infinity .result) (o .infinity .ensures) (c .if1 .taken))
+    let b = o .before in
+    let i = b .before in
+    let s = i .before .before in
+    i .before .nan .ensures ∙ sym (past-is-nan (s .pre) (s .args .x) (i .infinity .result) (b .shift-sign-out .result) (i .infinity .ensures) (b .shift-sign-out .ensures) (omega (arith, o .shift-sign-out2 .ensures)))
 
 returns-2 : tie.Need-returns-2
 returns-2 c =
     let o = c .before in
-    let s = o .before .before in
-    sym (rest-stays (s .pre) (s .args .x) (o .infinity .result) (o .infinity .ensures) (c .if1 .left))
+    let b = o .before in
+    let i = b .before in
+    let s = i .before .before in
+    sym (rest-stays (s .pre) (s .args .x) (i .infinity .result) (b .shift-sign-out .result) (i .infinity .ensures) (b .shift-sign-out .ensures) (omega (arith, o .shift-sign-out2 .ensures)))
 
 pub canonicalise-spec : {M : Type 1} → statement M
-canonicalise-spec = tie.close (tie.spec nan-requires add-sign sub-sign cast-if1 shl-if1 infinity-requires cast-if1-2 shl-if1-2 returns returns-2)
+canonicalise-spec = tie.close (tie.spec nan-requires infinity-requires shift-sign-out-requires shift-sign-out-requires-2 returns returns-2)
