@@ -2,3 +2,4 @@
 pub mod sum;
 pub mod sum_wide;
 pub mod third;
+pub mod units;

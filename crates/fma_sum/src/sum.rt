@@ -8,11 +8,10 @@ ghost use Rattle.fmt_fields.specs.Width.{format, Fits};
 ghost use Rattle.fmt_decode.specs.Norm.{aside};
 ghost use Rattle.fma_laws.specs.Aligned.{addedSteps, addedSign, addedExp};
 ghost use Rattle.fma_laws.specs.Fused.{productSig, productExp, roundedSum};
+use crate::units::exponent_in_units;
 use fma_align::align::align;
 use fma_align::product::Product;
-use fma_align::product::low_of;
 use fma_align::product::multiply;
-use fma_align::product::unit_exponent;
 use fma_align::sum::add_signed;
 use fmt_decode::norm::Norm;
 use fmt_decode::norm::norm_of;
@@ -62,6 +61,6 @@ pub fn round_sum(frac: u32, expo: u32, s: Sum) -> u64
     if s.steps == 0 {
         return 0;
     }
-    let exp = unit_exponent(s.exp, low_of(frac, expo));
+    let exp = exponent_in_units(frac, expo, s.exp);
     round(frac, expo, s.neg, s.steps, exp)
 }

@@ -9,11 +9,10 @@ ghost use Rattle.fmt_decode.specs.Norm.{aside};
 ghost use Rattle.fma_laws.specs.Aligned.{addedSteps, addedSign, addedExp};
 ghost use Rattle.fma_laws.specs.Fused.{productSig, productExp, roundedSum};
 ghost use Rattle.word_wide.specs.Value.{value};
+use crate::units::exponent_in_units;
 use fma_align::align::align_wide;
 use fma_align::product::ProductWide;
-use fma_align::product::low_of;
 use fma_align::product::multiply_wide;
-use fma_align::product::unit_exponent;
 use fma_align::sum::add_signed_wide;
 use fma_align::sum::is_zero;
 use fmt_decode::norm::Norm;
@@ -66,6 +65,6 @@ pub fn round_sum_wide(frac: u32, expo: u32, s: SumWide) -> u64
     if is_zero(s.steps) {
         return 0;
     }
-    let exp = unit_exponent(s.exp, low_of(frac, expo));
+    let exp = exponent_in_units(frac, expo, s.exp);
     round_wide(frac, expo, s.neg, s.steps, exp)
 }

@@ -2,6 +2,7 @@
 ghost use mathlib.Core.Path.{_≡_};
 ghost use Prim.Native.Nat.{_+_, _-_, _*_, _%_, _≤_, _<_, _^_};
 ghost use lib.Count.{leadingZeros};
+ghost use lib.Dec.{eqb};
 ghost use Rattle.reduce_laws.specs.Reducer.{Power};
 ghost use Rattle.reduce_modular.specs.Held.{Starts};
 use crate::reducer::Reducer;
@@ -45,15 +46,30 @@ pub fn scale_of(y: u64) -> u32
     u64::leading_zeros(y) - 2
 }
 
-// The divisor is scaled until it has two leading zeros, and x with it; the remainder is then scaled back.
+// Whether y is a power of two, by its only bit: scaled by s it is 2^61.
+pub fn is_power(y: u64, s: u32) -> bool
+    requires { ⌜ (s < 62) × (y * 2 ^ s < 2 ^ 62) ⌝ }
+    ensures { λ r. ⌜ r ≡ eqb (y * 2 ^ s) (2 ^ 61) ⌝ }
+{
+    y << s == 0x2000_0000_0000_0000
+}
+
+// By a y that is no power of two, scaled by s, and x with it; the remainder is then scaled back. d is the division with which the reducer starts.
+pub fn by_scaled(x: u64, e: u32, y: u64, s: u32, d: Divided) -> u64
+    requires { ⌜ (x < 2 * y) × (s < 62) × (2 ^ 61 < y * 2 ^ s) × (y * 2 ^ s < 2 ^ 62) × Starts (y * 2 ^ s) d ⌝ }
+    ensures { λ r. ⌜ r ≡ x * 2 ^ e % y ⌝ }
+{
+    by_words(x << s, e, y << s, d) >> s
+}
+
+// The divisor is scaled until it has two leading zeros, as the reducer requires.
 pub fn linear_mul_reduction(x: u64, e: u32, y: u64) -> u64
     requires { ⌜ (x < 2 * y) × (y < 2 ^ 62) × (e < 2 ^ 31) ⌝ }
     ensures { λ r. ⌜ r ≡ x * 2 ^ e % y ⌝ }
 {
     let s = scale_of(y);
-    let n = y << s;
-    if n == 0x2000_0000_0000_0000 {
+    if is_power(y, s) {
         return by_power(x, e, y);
     }
-    by_words(x << s, e, n, start(y, s)) >> s
+    by_scaled(x, e, y, s, start(y, s))
 }

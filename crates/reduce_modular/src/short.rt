@@ -2,7 +2,8 @@
 ghost use mathlib.Core.Path.{_≡_};
 ghost use Prim.Native.Nat.{_*_, _%_, _<_, _^_};
 use crate::modular::by_power;
-use crate::modular::by_words;
+use crate::modular::by_scaled;
+use crate::modular::is_power;
 use crate::modular::scale_of;
 use crate::start::start_short;
 
@@ -12,9 +13,8 @@ pub fn linear_mul_short(x: u64, e: u32, y: u64) -> u64
     ensures { λ r. ⌜ r ≡ x * 2 ^ e % y ⌝ }
 {
     let s = scale_of(y);
-    let n = y << s;
-    if n == 0x2000_0000_0000_0000 {
+    if is_power(y, s) {
         return by_power(x, e, y);
     }
-    by_words(x << s, e, n, start_short(y, s)) >> s
+    by_scaled(x, e, y, s, start_short(y, s))
 }

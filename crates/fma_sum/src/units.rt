@@ -1,0 +1,17 @@
+// The exponent of a fused sum in smallest units.
+ghost use mathlib.Core.Path.{_≡_};
+ghost use Prim.Native.Nat.{_+_, _-_, _<_, _^_};
+ghost use lib.IntN.{pos, _+ℤ_, _-ℤ_};
+ghost use lib.Signed.{mag};
+ghost use Rattle.ieee.specs.Format.{low};
+ghost use Rattle.fmt_fields.specs.Width.{format, Fits};
+use fma_align::product::low_of;
+use fma_align::product::unit_exponent;
+
+// A step is half a product's, so one less.
+pub fn exponent_in_units(frac: u32, expo: u32, exp: i32) -> i32
+    requires { ⌜ Fits frac expo × (mag exp < 2 ^ 19 + 2 ^ 18) ⌝ }
+    ensures { λ r. ⌜ (r ≡ exp +ℤ pos (low (format frac expo)) -ℤ pos 1) × (mag r < 2 ^ 20 - 64) ⌝ }
+{
+    unit_exponent(exp, low_of(frac, expo))
+}
