@@ -8,7 +8,7 @@ ghost use Rattle.fmt_fields.specs.Width.{format, Fits};
 use fma_align::product::low_of;
 use fma_align::product::unit_exponent;
 
-// A step is half a product's, so one less.
+// Less one, since a step is half of the product's unit.
 pub fn exponent_in_units(frac: u32, expo: u32, exp: i32) -> i32
     requires { ⌜ Fits frac expo × (mag exp < 2 ^ 19 + 2 ^ 18) ⌝ }
     ensures { λ r. ⌜ (r ≡ exp +ℤ pos (low (format frac expo)) -ℤ pos 1) × (mag r < 2 ^ 20 - 64) ⌝ }

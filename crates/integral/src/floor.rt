@@ -39,8 +39,8 @@ fn floor_below_one(frac: u32, expo: u32, x: u64) -> u64
     down
 }
 
-// x without the bits under a mask, which of a negative x go away from zero: less one, and then one more above the mask. Both are by the
-// same word, all ones or 0, so that no jump is needed.
+// x without the bits under a mask. A negative x goes away from zero: one is taken off before the cut, and one above the mask put back after it. Both
+// go by the same word, all ones or 0, so that no jump is needed.
 fn cut_down(frac: u32, expo: u32, x: u64, mask: u64) -> u64
     requires { ⌜ Fits frac expo × Pattern (format frac expo) x × Mask mask ⌝ }
     ensures { λ r. ⌜ r ≡ cutDown (format frac expo) x mask ⌝ }
