@@ -162,9 +162,30 @@ pub fn squares<W: Word>(random: &mut Random) -> (W,) {
     (digits(0, root * root, 2 * half),)
 }
 
-/// subnormal numbers above zero, every length alike often
-pub fn small<W: Word>(random: &mut Random) -> (W,) {
-    (W::of(random.up_to_bits(W::FRACTION_BITS)),)
+/// One subnormal number above zero, or two numbers of which one at least is subnormal.
+pub trait Small {
+    fn small(random: &mut Random) -> Self;
+}
+impl<W: Word> Small for (W,) {
+    fn small(random: &mut Random) -> (W,) {
+        (W::of(random.up_to_bits(W::FRACTION_BITS)),)
+    }
+}
+impl<W: Word> Small for (W, W) {
+    fn small(random: &mut Random) -> (W, W) {
+        let which = random.below(3);
+        let mut draw = |is_normal: bool| {
+            let exponent = random.between(W::SMALLEST, W::SMALLEST + 8);
+            let sign = (random.coin() as u64) << (W::WIDTH - 1);
+            if is_normal { number(random, exponent) } else { W::of(sign | random.up_to_bits(W::FRACTION_BITS)) }
+        };
+        (draw(which == 1), draw(which == 2))
+    }
+}
+
+/// subnormal numbers, every length alike often: x above zero; of two, x, y or both, and the other from the 9 least normal exponents
+pub fn small<T: Small>(random: &mut Random) -> T {
+    T::small(random)
 }
 
 /// Normal numbers x and y, and z with its exponent so many places above the sum of theirs.

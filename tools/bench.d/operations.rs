@@ -90,10 +90,10 @@ operations! {
     floor32_status    (x: u32)                     [pk_floor32: u32, pk_floor32_status: u32]     { both32(generic::floor_status(f32::from_bits(x))) }              [patterns, fractions];
     scalbn64          (x: u64, n: i32)             [pk_scalbn64: u64]                            { generic::scalbn(f64::from_bits(x), n).to_bits() }               [normal, wide, subnormal];
     scalbn32          (x: u32, n: i32)             [pk_scalbn32: u32]                            { generic::scalbn(f32::from_bits(x), n).to_bits() }               [normal, wide, subnormal];
-    fmod64            (x: u64, y: u64)             [pk_fmod64: u64]                              { generic::fmod(f64::from_bits(x), f64::from_bits(y)).to_bits() } [near, apart31, apart63, far, worst];
-    fmod32            (x: u32, y: u32)             [pk_fmod32: u32]                              { generic::fmod(f32::from_bits(x), f32::from_bits(y)).to_bits() } [near, far, worst];
-    remquo64          (x: u64, y: u64)             [pk_remquo64: u64]                            { rest64(remquo(f64::from_bits(x), f64::from_bits(y))) }          [near, far, worst];
-    remquo64_quotient (x: u64, y: u64)             [pk_remquo64: u64, pk_remquo64_quotient: i32] { with_quotient(remquo(f64::from_bits(x), f64::from_bits(y))) }   [near, worst];
+    fmod64            (x: u64, y: u64)             [pk_fmod64: u64]                              { generic::fmod(f64::from_bits(x), f64::from_bits(y)).to_bits() } [near, apart31, apart63, far, worst, small];
+    fmod32            (x: u32, y: u32)             [pk_fmod32: u32]                              { generic::fmod(f32::from_bits(x), f32::from_bits(y)).to_bits() } [near, far, worst, small];
+    remquo64          (x: u64, y: u64)             [pk_remquo64: u64]                            { rest64(remquo(f64::from_bits(x), f64::from_bits(y))) }          [near, far, worst, small];
+    remquo64_quotient (x: u64, y: u64)             [pk_remquo64: u64, pk_remquo64_quotient: i32] { with_quotient(remquo(f64::from_bits(x), f64::from_bits(y))) }   [near, worst, small];
     reduce64          (x: u64, shift: u32, y: u64) [pk_reduce64: u64]                            { linear_mul_reduction(x, shift, y) }                             [random, longest];
     reduce32          (x: u32, shift: u32, y: u32) [pk_reduce32: u32]                            { linear_mul_reduction(x, shift, y) }                             [random, longest];
     reduce64_refusal  (x: u64, shift: u32, y: u64) [pk_reduce64: u64, pk_reduce64_refusal: u32]  { (linear_mul_reduction(x, shift, y), 0) }                        [random, longest];
