@@ -8,7 +8,7 @@ use Rattle.ieee.specs.Pattern.{Pattern, magnitude, minus}
 use Rattle.ieee.specs.Fma.{fmaOf, productSign}
 use Rattle.fmt_fields.specs.Width.{format, Fits}
 use Rattle.fmt_fields.proofs.Numbers.{infinity-some}
-use Rattle.fmt_decode.specs.Norm.{aside}
+use Rattle.fmt_decode.specs.Aside.{aside}
 use Rattle.fmt_decode.proofs.Asides.{ordinary}
 use Rattle.fma_laws.specs.Aligned.{addedSteps, addedSign, addedExp}
 use Rattle.fma_laws.specs.Fused.{productSig, productExp, thirdSigOf, thirdExpOf, roundedSum}

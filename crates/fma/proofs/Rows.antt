@@ -18,7 +18,7 @@ use Rattle.ieee.proofs.Fields.{field-small, field-finite}
 use Rattle.ieee.proofs.Attributes.{answer-pattern}
 use Rattle.ieee.proofs.Fmas.{fma-rows}
 use Rattle.fmt_fields.specs.Width.{format, Fits}
-use Rattle.fmt_decode.specs.Norm.{aside}
+use Rattle.fmt_decode.specs.Aside.{aside}
 use Rattle.fmt_decode.proofs.Asides.{set-aside, field-last}
 use Rattle.fma.specs.Special.{special}
 

@@ -1,14 +1,11 @@
-// The product of two unpacked numbers, doubled to be even; its distance from a third number; and exponents in smallest units.
+// The product of two unpacked numbers, doubled to be even; and its distance from a third number.
 ghost use mathlib.Core.Path.{_≡_};
 ghost use Prim.Native.Nat.{_+_, _*_, _<_, _^_};
-ghost use lib.IntN.{pos, _+ℤ_, _-ℤ_};
+ghost use lib.IntN.{_+ℤ_, _-ℤ_};
 ghost use lib.Signed.{mag};
-ghost use Rattle.ieee.specs.Format.{low};
 ghost use Rattle.ieee.specs.Pattern.{unlike};
-ghost use Rattle.fmt_fields.specs.Width.{format, Fits};
 ghost use Rattle.word_wide.specs.Value.{value};
 use fmt_decode::norm::Norm;
-use word_bits::pow;
 use word_wide::Wide;
 use word_wide::product::mul;
 
@@ -40,22 +37,6 @@ pub fn subtract_exponents(a: i32, b: i32) -> i32
     ensures { λ r. ⌜ r ≡ a -ℤ b ⌝ }
 {
     a - b
-}
-
-// The smallest unit of a format is 2^-low: 1074 at 64 bits, 149 at 32.
-pub fn low_of(frac: u32, expo: u32) -> u32
-    requires { ⌜ Fits frac expo ⌝ }
-    ensures { λ r. ⌜ r ≡ low (format frac expo) ⌝ }
-{
-    (pow(expo - 1) + frac as u64 - 2) as u32
-}
-
-// The exponent of a step, in smallest units of 2^-low: less one, for the factor of two.
-pub fn unit_exponent(exp: i32, low: u32) -> i32
-    requires { ⌜ (mag exp < 2 ^ 19 + 2 ^ 18) × (low < 2 ^ 16) ⌝ }
-    ensures { λ r. ⌜ r ≡ exp +ℤ pos low -ℤ pos 1 ⌝ }
-{
-    exp + low as i32 - 1
 }
 
 pub fn multiply_wide(x: Norm, y: Norm) -> ProductWide

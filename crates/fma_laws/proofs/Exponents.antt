@@ -11,15 +11,14 @@ use Rattle.ieee.specs.Format.{Format, low, units}
 use Rattle.ieee.specs.Pattern.{magnitude}
 use Rattle.fmt_decode.specs.Significand.{sigOf, expOf}
 use Rattle.fmt_decode.proofs.Significands.{Normal}
-use Rattle.fmt_decode.specs.Norm.{normExpOf}
 use Rattle.fma_laws.specs.Aligned.{downBy}
 use Rattle.fma_laws.specs.Fused.{productSig, thirdSig, aboveBy, fusedExp}
 use Rattle.fma_laws.proofs.Alignment.{Sized}
 
 module _ (f : Format) (x ax : ℕ) (n : Normal f x ax) where
   -- a number is sigOf f x times 2 ^ (ax - (frac + low))
-  pub norm-exp-is : up (normExpOf f x) + (f .frac + low f) ≡ dn (normExpOf f x) + ax
-  norm-exp-is = omega (arith, subZ (expOf f x) (pos (suc (low f))), eqZ-fact (n .exponent), subZ (pos (suc ax)) (pos (f .frac)))
+  pub norm-exp-is : up (expOf f x) + (f .frac + low f) ≡ dn (expOf f x) + ax
+  norm-exp-is = omega (arith, eqZ-fact (n .exponent), subZ (pos ax) (pos (f .frac + low f)))
 
 -- the power of two that makes the counts whole, doubled
 abbrev pub finer : Format → ℕ
@@ -29,8 +28,8 @@ pub finer-is : (f : Format) → 2 ^ finer f ≡ 2 * 2 ^ f .frac * 2 ^ f .frac
 finer-is f = omega (arith, two-pow-succ (f .frac + f .frac), pow-add 2 (f .frac) (f .frac))
 
 module _ (f : Format) (x y ax ay : ℕ) (nx : Normal f x ax) (ny : Normal f y ay) where
-  pub product-exp : up (normExpOf f x +ℤ normExpOf f y) + (f .frac + low f + (f .frac + low f)) ≡ dn (normExpOf f x +ℤ normExpOf f y) + (ax + ay)
-  product-exp = omega (arith, addZ (normExpOf f x) (normExpOf f y), norm-exp-is f x ax nx, norm-exp-is f y ay ny)
+  pub product-exp : up (expOf f x +ℤ expOf f y) + (f .frac + low f + (f .frac + low f)) ≡ dn (expOf f x +ℤ expOf f y) + (ax + ay)
+  product-exp = omega (arith, addZ (expOf f x) (expOf f y), norm-exp-is f x ax nx, norm-exp-is f y ay ny)
 
   pub product-counts : units f (magnitude f x) * units f (magnitude f y) * 2 ^ (f .frac + f .frac) ≡ sigOf f x * sigOf f y * 2 ^ (ax + ay)
   product-counts =
@@ -54,11 +53,11 @@ module _ (f : Format) (z az : ℕ) (nz : Normal f z az) where
 
 module _ (f : Format) (x y z ax ay az : ℕ) (nx : Normal f x ax) (ny : Normal f y ay) (nz : Normal f z az) where
   pub above-is : up (aboveBy f x y z) + (ax + ay) ≡ dn (aboveBy f x y z) + (az + (f .frac + low f))
-  above-is = omega (arith, subZ (normExpOf f z) (normExpOf f x +ℤ normExpOf f y), norm-exp-is f z az nz, product-exp f x y ax ay nx ny)
+  above-is = omega (arith, subZ (expOf f z) (expOf f x +ℤ expOf f y), norm-exp-is f z az nz, product-exp f x y ax ay nx ny)
 
   pub fused-exp : (l : ℕ) → up (fusedExp f l x y z) + (low f + finer f) ≡ dn (fusedExp f l x y z) + (ax + ay + downBy l (aboveBy f x y z))
   fused-exp l =
-      let xy : ℤ = normExpOf f x +ℤ normExpOf f y in
+      let xy : ℤ = expOf f x +ℤ expOf f y in
       let k : ℕ = downBy l (aboveBy f x y z) in
       omega (arith, subZ (xy +ℤ pos k +ℤ pos (low f)) (pos 1), addZ (xy +ℤ pos k) (pos (low f)), addZ xy (pos k), product-exp f x y ax ay nx ny)
 

@@ -19,9 +19,8 @@ use Rattle.ieee.proofs.Patterns.{value-is, kind-finite}
 use Rattle.ieee.proofs.Signs.{signed-times, signed-product, signed-zero}
 use Rattle.ieee.proofs.Fmas.{fma-answer, fma-rows}
 use Rattle.round_step.proofs.Scaled.{scaled-moves}
-use Rattle.fmt_decode.specs.Significand.{sigOf}
+use Rattle.fmt_decode.specs.Significand.{sigOf, expOf}
 use Rattle.fmt_decode.proofs.Significands.{Normal, normal-is}
-use Rattle.fmt_decode.specs.Norm.{normExpOf}
 use Rattle.fmt_decode.proofs.Asides.{Ordinary}
 use Rattle.fma_laws.specs.Aligned.{joined, joinedSign}
 use Rattle.fma_laws.specs.Fused.{productSig, thirdSig, aboveBy, fusedSteps, fusedSign, fusedExp}
@@ -121,29 +120,29 @@ module _ (f : Format) (g : Fair f) (x y z : ℕ) (ox : Ordinary f x) (oy : Ordin
 
   -- a product that rounds to zero keeps its sign
   pub product-alone : fmaOf f x y z
-      ≡ answer f ties-to-even (unlike (minus f x) (minus f y)) (scaled (unlike (minus f x) (minus f y)) (sigOf f x * sigOf f y) (normExpOf f x +ℤ normExpOf f y +ℤ pos (low f)))
+      ≡ answer f ties-to-even (unlike (minus f x) (minus f y)) (scaled (unlike (minus f x) (minus f y)) (sigOf f x * sigOf f y) (expOf f x +ℤ expOf f y +ℤ pos (low f)))
   product-alone =
       let (ax, nx) = normal-is f g x (ox .least) in
       let (ay, ny) = normal-is f g y (oy .least) in
       let s = productSign f x y in
       let c = zeroSign f ties-to-even x y z in
       let k : ℕ = f .frac + f .frac in
-      let n : ℤ = normExpOf f x +ℤ normExpOf f y +ℤ pos (low f) in
+      let n : ℤ = expOf f x +ℤ expOf f y +ℤ pos (low f) in
       let some : 0 < first f x y = product-some f x y ox oy in
       total-answer f x y z (ox .most) (oy .most) (omega (arith, ox .most))
       ∙ (λ i. answer f ties-to-even c (dyadic (withSign (sign-product i) (total-first i)) (low f)))
       ∙ finer-answer f ties-to-even c s (first f x y) (low f) k some
       ∙ counted-answer f ties-to-even c s (first f x y * 2 ^ k) (sigOf f x * sigOf f y) (ax + ay) (low f + k) n
       (omega (arith, times-le (2 ^ k) some, pow-pos k))
-      (omega (arith, addZ (normExpOf f x +ℤ normExpOf f y) (pos (low f)), product-exp f x y ax ay nx ny))
+      (omega (arith, addZ (expOf f x +ℤ expOf f y) (pos (low f)), product-exp f x y ax ay nx ny))
       (product-counts f x y ax ay nx ny)
 
   -- the same for twice the product
   pub product-twice : fmaOf f x y z
-      ≡ answer f ties-to-even (unlike (minus f x) (minus f y)) (scaled (unlike (minus f x) (minus f y)) (productSig f x y) (normExpOf f x +ℤ normExpOf f y +ℤ pos 0 +ℤ pos (low f) -ℤ pos 1))
+      ≡ answer f ties-to-even (unlike (minus f x) (minus f y)) (scaled (unlike (minus f x) (minus f y)) (productSig f x y) (expOf f x +ℤ expOf f y +ℤ pos 0 +ℤ pos (low f) -ℤ pos 1))
   product-twice =
       let s = unlike (minus f x) (minus f y) in
-      let a = normExpOf f x +ℤ normExpOf f y in
+      let a = expOf f x +ℤ expOf f y in
       let k = a +ℤ pos (low f) in
       let m = a +ℤ pos 0 +ℤ pos (low f) -ℤ pos 1 in
       let e : productSig f x y ≡ sigOf f x * sigOf f y * 2 ^ 1 = omega arith in

@@ -15,9 +15,9 @@ use Rattle.ieee.specs.Round.{answer, ties-to-even}
 use Rattle.ieee.specs.Scalbn.{scaled}
 use Rattle.ieee.specs.Fma.{fmaOf, productSign}
 use Rattle.fmt_fields.specs.Width.{format, Fits}
-use Rattle.fmt_decode.specs.Norm.{normExpOf}
+use Rattle.fmt_decode.specs.Significand.{expOf}
 use Rattle.fmt_decode.proofs.Asides.{Ordinary}
-use Rattle.fmt_decode.proofs.Zeros.{unbias-small}
+use Rattle.fmt_decode.proofs.Ranges.{low-small}
 use Rattle.round_wide.specs.Stuck.{stuck}
 use Rattle.round_wide.proofs.Stuck.{stuck-none, stuck-le}
 use Rattle.fma_laws.specs.Aligned.{productAt, thirdAt, downBy, joined, joinedSign, addedSteps, addedSign, addedExp}
@@ -40,7 +40,7 @@ pub units-small : {p e : ℕ} → Fits p e → (n : ℤ) → mag n < 2 ^ 19 + 2 
 units-small {p} {e} w n l =
     let b = n +ℤ pos (low (format p e)) in
     let bounds : (up (b -ℤ pos 1) < 2 ^ 20 - 64 + dn (b -ℤ pos 1)) × (dn (b -ℤ pos 1) ≤ 2 ^ 20 - 64 + up (b -ℤ pos 1)) =
-    omega (arith, subZ b (pos 1), addZ n (pos (low (format p e))), magZ-fact n l, unbias-small w) in
+    omega (arith, subZ b (pos 1), addZ n (pos (low (format p e))), magZ-fact n l, low-small w) in
     magZ (b -ℤ pos 1) (2 ^ 20 - 64) (bounds .0) (bounds .1)
 
 -- ---- a zero added: the product stays as it is
@@ -69,7 +69,7 @@ module _ {p e : ℕ} (w : Fits p e) (l : ℕ) (two : 2 ≤ p) (room : 2 + p ≤ 
   abbrev S : Bool
   S = productSign f x y
 
-  some-added : Ordinary f z → roundedSum f (fusedSign f l x y z) (fusedSteps f l x y z) (addedExp l E (normExpOf f z)) ≡ fmaOf f x y z
+  some-added : Ordinary f z → roundedSum f (fusedSign f l x y z) (fusedSteps f l x y z) (addedExp l E (expOf f z)) ≡ fmaOf f x y z
   some-added oz =
       order 1 (fusedSteps f l x y z)
       (λ h. rounded-some f _ _ _ h ∙ sym (fused-own f (w .fair) l x y z ox oy oz two room h))
@@ -90,7 +90,7 @@ module _ {p e : ℕ} (w : Fits p e) (l : ℕ) (two : 2 ≤ p) (room : 2 + p ≤ 
   added h = by-zero (eqb (magnitude f z) 0) refl
     where
       by-zero : (b : Bool) → eqb (magnitude f z) 0 ≡ b
-          → let q = cond b 0 (thirdSig f z) in let g = cond b lowest (normExpOf f z) in
+          → let q = cond b 0 (thirdSig f z) in let g = cond b lowest (expOf f z) in
           roundedSum f (addedSign l P E S q g (minus f z)) (addedSteps l P E S q g (minus f z)) (addedExp l E g) ≡ fmaOf f x y z
       by-zero true i = zero-added (eqb-true (magnitude f z) 0 i)
       by-zero false i = let t = eqb-false (magnitude f z) 0 i in some-added (record { least = omega (arith, t); most = h })

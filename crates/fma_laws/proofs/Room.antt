@@ -10,13 +10,11 @@ use Rattle.algebra.proofs.Products.{times-le}
 use Rattle.algebra.proofs.Integers.{up, dn, addZ, subZ, oneZ, magZ, magZ-fact}
 use Rattle.ieee.specs.Format.{Format, Fair}
 use Rattle.fmt_fields.specs.Width.{format, Fits}
-use Rattle.fmt_fields.proofs.Widths.{fields-small}
 use Rattle.round_wide.proofs.Stuck.{stuck-le}
-use Rattle.fmt_decode.specs.Significand.{sigOf}
+use Rattle.fmt_decode.specs.Significand.{sigOf, expOf}
 use Rattle.fmt_decode.proofs.Significands.{normal-is}
-use Rattle.fmt_decode.specs.Norm.{normExpOf}
 use Rattle.fmt_decode.proofs.Asides.{Ordinary}
-use Rattle.fmt_decode.proofs.Zeros.{norm-exp-bounds, unbias-small}
+use Rattle.fmt_decode.proofs.Ranges.{low-small, exp-in-range, range-bounds}
 use Rattle.fma_laws.specs.Aligned.{productAt, thirdAt, downBy, addedExp}
 use Rattle.fma_laws.specs.Fused.{productSig, thirdSig}
 
@@ -64,23 +62,16 @@ pub down-le : (l : ℕ) (d : ℤ) → downBy l d ≤ up d
 down-le l (pos n) = omega arith
 down-le l (negsuc n) = omega arith
 
-module _ {p e : ℕ} (w : Fits p e) where
-  norm-exp-small : (v : ℕ) → Ordinary (format p e) v → (up (normExpOf (format p e) v) < 2 ^ 16) × (dn (normExpOf (format p e) v) < 2 ^ 17)
-  norm-exp-small v o = omega (arith, norm-exp-bounds w v (o .least), fields-small w, unbias-small w, w .word)
-
-  pub norm-exp-mag : (v : ℕ) → Ordinary (format p e) v → mag (normExpOf (format p e) v) < 2 ^ 18
-  norm-exp-mag v o = magZ (normExpOf (format p e) v) (2 ^ 18) (omega (arith, norm-exp-small v o)) (omega (arith, norm-exp-small v o))
-
 -- of the product
 module _ {p e : ℕ} (w : Fits p e) (x y : ℕ) (ox : Ordinary (format p e) x) (oy : Ordinary (format p e) y) where
-  product-bounds : (up (normExpOf (format p e) x +ℤ normExpOf (format p e) y) < 2 ^ 17) × (dn (normExpOf (format p e) x +ℤ normExpOf (format p e) y) < 2 ^ 18)
+  product-bounds : (up (expOf (format p e) x +ℤ expOf (format p e) y) < 2 ^ 18) × (dn (expOf (format p e) x +ℤ expOf (format p e) y) < 2 ^ 18)
   product-bounds =
-      let a = normExpOf (format p e) x in
-      let b = normExpOf (format p e) y in
-      omega (arith, addZ a b, oneZ (a +ℤ b), norm-exp-small w x ox, norm-exp-small w y oy)
+      let a = expOf (format p e) x in
+      let b = expOf (format p e) y in
+      omega (arith, addZ a b, oneZ (a +ℤ b), range-bounds w a (exp-in-range w x (ox .least)), range-bounds w b (exp-in-range w y (oy .least)), low-small w, w .word)
 
-  pub product-small : mag (normExpOf (format p e) x +ℤ normExpOf (format p e) y) < 2 ^ 18
-  product-small = magZ (normExpOf (format p e) x +ℤ normExpOf (format p e) y) (2 ^ 18) (omega (arith, product-bounds)) (omega (arith, product-bounds))
+  pub product-small : mag (expOf (format p e) x +ℤ expOf (format p e) y) < 2 ^ 18
+  product-small = magZ (expOf (format p e) x +ℤ expOf (format p e) y) (2 ^ 18) (omega (arith, product-bounds)) (omega (arith, product-bounds))
 
 -- ---- of any two exponents that are small
 module _ (a b : ℤ) (p : mag a < 2 ^ 18) (q : mag b < 2 ^ 18) where

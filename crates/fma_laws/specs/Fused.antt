@@ -8,8 +8,7 @@ use Rattle.ieee.specs.Pattern.{minus, magnitude}
 use Rattle.ieee.specs.Round.{answer, ties-to-even}
 use Rattle.ieee.specs.Scalbn.{scaled}
 use Rattle.ieee.specs.Fma.{productSign}
-use Rattle.fmt_decode.specs.Significand.{sigOf}
-use Rattle.fmt_decode.specs.Norm.{normExpOf}
+use Rattle.fmt_decode.specs.Significand.{sigOf, expOf}
 use Rattle.fma_laws.specs.Aligned.{addedSteps, addedSign, addedExp}
 
 -- the significands, doubled: the one that loses no bit is then an even count of steps, and only a marked sum can be odd
@@ -17,7 +16,7 @@ abbrev pub productSig : Format → ℕ → ℕ → ℕ
 productSig f x y = 2 * (sigOf f x * sigOf f y)
 
 abbrev pub productExp : Format → ℕ → ℕ → ℤ
-productExp f x y = normExpOf f x +ℤ normExpOf f y
+productExp f x y = expOf f x +ℤ expOf f y
 
 abbrev pub thirdSig : Format → ℕ → ℕ
 thirdSig f z = 2 * sigOf f z
@@ -30,22 +29,22 @@ abbrev pub thirdSigOf : Format → ℕ → ℕ
 thirdSigOf f z = cond (eqb (magnitude f z) 0) 0 (thirdSig f z)
 
 abbrev pub thirdExpOf : Format → ℕ → ℤ
-thirdExpOf f z = cond (eqb (magnitude f z) 0) lowest (normExpOf f z)
+thirdExpOf f z = cond (eqb (magnitude f z) 0) lowest (expOf f z)
 
 -- how far z is above the product
 abbrev pub aboveBy : Format → ℕ → ℕ → ℕ → ℤ
-aboveBy f x y z = normExpOf f z -ℤ productExp f x y
+aboveBy f x y z = expOf f z -ℤ productExp f x y
 
 -- the sum of both, where z is not a zero
 abbrev pub fusedSteps : Format → ℕ → ℕ → ℕ → ℕ → ℕ
-fusedSteps f l x y z = addedSteps l (productSig f x y) (productExp f x y) (productSign f x y) (thirdSig f z) (normExpOf f z) (minus f z)
+fusedSteps f l x y z = addedSteps l (productSig f x y) (productExp f x y) (productSign f x y) (thirdSig f z) (expOf f z) (minus f z)
 
 abbrev pub fusedSign : Format → ℕ → ℕ → ℕ → ℕ → Bool
-fusedSign f l x y z = addedSign l (productSig f x y) (productExp f x y) (productSign f x y) (thirdSig f z) (normExpOf f z) (minus f z)
+fusedSign f l x y z = addedSign l (productSig f x y) (productExp f x y) (productSign f x y) (thirdSig f z) (expOf f z) (minus f z)
 
 -- the exponent of a step, in smallest units of 2 ^ -low; less one, for the factor two
 abbrev pub fusedExp : Format → ℕ → ℕ → ℕ → ℕ → ℤ
-fusedExp f l x y z = addedExp l (productExp f x y) (normExpOf f z) +ℤ pos (low f) -ℤ pos 1
+fusedExp f l x y z = addedExp l (productExp f x y) (expOf f z) +ℤ pos (low f) -ℤ pos 1
 
 -- a sum rounded once, where a sum of no steps is +0
 unfoldable pub roundedSum : Format → Bool → ℕ → ℤ → ℕ

@@ -5,7 +5,7 @@ ghost use Prim.Native.Nat.{_+_, _≤_, _<_, _^_};
 ghost use lib.Signed.{mag};
 ghost use Rattle.ieee.specs.Fma.{productSign};
 ghost use Rattle.fmt_fields.specs.Width.{format, Fits};
-ghost use Rattle.fmt_decode.specs.Norm.{aside};
+ghost use Rattle.fmt_decode.specs.Aside.{aside};
 ghost use Rattle.fma_laws.specs.Aligned.{addedSteps, addedSign, addedExp};
 ghost use Rattle.fma_laws.specs.Fused.{productSig, productExp, roundedSum};
 use crate::units::exponent_in_units;

@@ -3,26 +3,33 @@ use Prim.Native.Nat.{ℕ, zero, suc, _+_, _-_, _*_, _/_, _%_, _^_, _≤_, _<_}
 use mathlib.Core.Path.{_≡_, refl, sym, ap, ap₂, _∙_}
 use mathlib.Core.Bool.{Bool, true, false, _||_, true≢false}
 use native.Mathlib.Nat.{mod-lt}
-use native.Mathlib.Omega.{arith, both-ways}
-use lib.Dec.{ltb}
+use native.Mathlib.Omega.{arith, both-ways, by-contra}
+use lib.Dec.{T, ltb}
+use lib.IntN.{ℤ, pos, _-ℤ_}
+use lib.Signed.{leZ}
 use lib.Pow.{pow-add, pow-pos}
-use lib.Ieee.Nearest.{div-mono}
 use borrow.Author.Tests.{ltb-true, ltb-false}
-use Rattle.algebra.proofs.Products.{order, times, times-le, mul-lt-cancel}
+use Rattle.algebra.proofs.Integers.{up, dn, subZ, oneZ, eqZ-fact, leZ-of}
+use Rattle.algebra.proofs.Products.{order, times, times-le}
 use Rattle.algebra.proofs.Quotients.{div-mod, div-is}
 use Rattle.algebra.proofs.Powers.{pow-diff}
-use Rattle.ieee.specs.Format.{Format, inf, canonical, units}
-use Rattle.ieee.specs.Pattern.{Pattern, minus, magnitude, signed, finite, kind}
+use Rattle.ieee.specs.Format.{Format, top, low, inf, canonical, units}
+use Rattle.ieee.specs.Pattern.{Pattern, minus, magnitude, field, signed, finite, kind}
 use Rattle.ieee.specs.Round.{exactly}
 use Rattle.ieee.specs.Fmod.{divide, left, fmodOf}
+use Rattle.ieee.proofs.Fields.{magnitude-fields, fraction-small}
 use Rattle.ieee.proofs.Units.{units-zero, units-lt}
 use Rattle.ieee.proofs.Patterns.{inf-below-top, pattern-signed, kind-infinite, kind-finite}
 use Rattle.ieee.proofs.Remainders.{fmod-rows}
 use Rattle.fmt_fields.specs.Width.{format, Fits}
-use Rattle.fmt_decode.proofs.Packs.{Apart, apart, pastOne, significand, past-one-small, exactly-below}
+use Rattle.fmt_decode.specs.Significand.{significand, unitsExp, exponent, unitsAt}
+use Rattle.fmt_decode.proofs.InUnits.{units-given}
+use Rattle.fmt_decode.proofs.Packs.{exactly-below}
+use Rattle.fmt_decode.proofs.Significands.{exponent-is, significand-some, significand-small, units-counted}
 use Rattle.fmt_decode.specs.Rows.{noRemainder}
+use Rattle.fmt_fields.proofs.Decoded.{field-in-word}
 use Rattle.fmt_fields.proofs.Numbers.{infinity-some}
-use Rattle.fmod.specs.Division.{settled, past, sig, leftOf}
+use Rattle.fmod.specs.Division.{settled, leftOf}
 use Rattle.fmt_decode.proofs.Sorts.{no-remainder-none, Remains, remains}
 
 -- a common factor of two numbers is a factor of the remainder
@@ -31,21 +38,19 @@ scaled-left a b t p q =
     let (d, l) = div-mod a b p in
     omega (arith, times t d, times (b * t) (div-is (a * t) (b * t) (a / b) (a % b * t) (omega (arith, times-le t l)) (omega (arith, times t d)) .0))
 
--- q, the remainder of the significands, shifted left by n is the remainder of x by y
-pub record Finishes (f : Format) (x y n q : ℕ) : Type 0 where
+-- q, the remainder of the significands, at the exponent of y is the remainder of x by y
+pub record Finishes (f : Format) (x y q : ℕ) : Type 0 where
   pub few : q < 2 ^ (f .frac + 1)
-  pub fits : q * 2 ^ n < units f (inf f)
-  pub is : signed f (minus f x) (exactly f (q * 2 ^ n)) ≡ fmodOf f x y
-  pub pattern : Pattern f (signed f (minus f x) (exactly f (q * 2 ^ n)))
+  pub fits : unitsAt f q (exponent f y) < units f (inf f)
+  pub below : exactly f (unitsAt f q (exponent f y)) < top f
+  pub is : signed f (minus f x) (exactly f (unitsAt f q (exponent f y))) ≡ fmodOf f x y
+  pub pattern : Pattern f (signed f (minus f x) (exactly f (unitsAt f q (exponent f y))))
 
--- two numbers unpacked to be reduced, each a significand and an exponent
-pub record Reduces (f : Format) (x y ex sx ey sy : ℕ) : Type 0 where
-  pub ordered : ey ≤ ex
-  pub reach : ex < 2 ^ f .expo
-  pub some : 0 < sy
-  pub few-x : sx < 2 ^ (f .frac + 1)
-  pub few-y : sy < 2 ^ (f .frac + 1)
-  pub finishes : (q : ℕ) → q ≡ sx * 2 ^ (ex - ey) % sy → Finishes f x y ey q
+-- two numbers unpacked to be reduced
+pub record Reduces (f : Format) (x y : ℕ) : Type 0 where
+  pub ordered : field f y ≤ field f x
+  pub some : 0 < significand f y
+  pub finishes : (q : ℕ) → q ≡ leftOf f x y → Finishes f x y q
 
 module _ (f : Format) (x y : ℕ) where
   pub fmod-none : noRemainder f x y ≡ true → canonical f ≡ fmodOf f x y
@@ -62,66 +67,63 @@ module _ (f : Format) (x y : ℕ) where
     -- the significands and exponents of both, where x is at least y
     module _ (g : magnitude f y ≤ magnitude f x) where
       abbrev sx : ℕ
-      sx = significand f (magnitude f x)
+      sx = significand f x
 
       abbrev ex : ℕ
-      ex = pastOne f (magnitude f x)
+      ex = unitsExp f x
 
       abbrev sy : ℕ
-      sy = significand f (magnitude f y)
+      sy = significand f y
 
       abbrev ey : ℕ
-      ey = pastOne f (magnitude f y)
+      ey = unitsExp f y
 
-      x-apart : Apart f (magnitude f x) ex sx
-      x-apart = apart f (magnitude f x)
+      -- the fields are in the order of the magnitudes, which begin with them
+      fields-ordered : field f y ≤ field f x
+      fields-ordered =
+          by-contra (field f y) (field f x)
+          (λ l. omega (arith, g, magnitude-fields f x, magnitude-fields f y, fraction-small f x, times-le (2 ^ f .frac) l))
 
-      y-apart : Apart f (magnitude f y) ey sy
-      y-apart = apart f (magnitude f y)
+      exponents-ordered : ey ≤ ex
+      exponents-ordered = omega (arith, fields-ordered)
 
-      pub exponents-ordered : ey ≤ ex
-      exponents-ordered = omega (arith, div-mono (magnitude f y) (2 ^ f .frac) (magnitude f x) (2 ^ f .frac) (pow-pos (f .frac)) (pow-pos (f .frac)) (times-le (2 ^ f .frac) g))
+      divisor-some : 0 < sy
+      divisor-some = significand-some f y (r .least)
 
       some-units : 0 < units f (magnitude f y)
       some-units = omega (arith, units-lt f (r .least), units-zero f)
 
-      pub divisor-some : 0 < sy
-      divisor-some = mul-lt-cancel 0 sy (2 ^ ey) (omega (arith, y-apart .counts, some-units))
-
       -- the exponent of y is a factor of both
       x-units : units f (magnitude f x) ≡ sx * 2 ^ (ex - ey) * 2 ^ ey
-      x-units = omega (arith, x-apart .counts, times sx (pow-diff exponents-ordered))
+      x-units = omega (arith, units-counted f x, times sx (pow-diff exponents-ordered))
 
       left-is : left (units f (magnitude f x)) (units f (magnitude f y)) ≡ sx * 2 ^ (ex - ey) % sy * 2 ^ ey
-      left-is = ap₂ left x-units (y-apart .counts) ∙ scaled-left (sx * 2 ^ (ex - ey)) sy (2 ^ ey) divisor-some (pow-pos ey)
+      left-is = ap₂ left x-units (units-counted f y) ∙ scaled-left (sx * 2 ^ (ex - ey)) sy (2 ^ ey) divisor-some (pow-pos ey)
 
       fmod-left : (v : ℕ) → 0 < v → kind f y ≡ finite v → fmodOf f x y ≡ signed f (minus f x) (exactly f (left (units f (magnitude f x)) v))
       unfolding fmodOf divide
       fmod-left zero l e = absurd (omega arith)
       fmod-left (suc v) l e = rw (kind-finite f x (r .below), e)
 
-      finishes-left : (q : ℕ) → q ≡ sx * 2 ^ (ex - ey) % sy → Finishes f x y ey q
+      finishes-left : (q : ℕ) → q ≡ leftOf f x y → Finishes f x y q
       finishes-left q e =
           let h : magnitude f y < inf f = omega (arith, r .below) in
           let l : q < sy = omega (arith, mod-lt (sx * 2 ^ (ex - ey)) divisor-some) in
-          let t : q * 2 ^ ey < units f (inf f) = omega (arith, times-le (2 ^ ey) l, y-apart .counts, units-lt f h) in
+          let u = units-given f y q in
+          let t : q * 2 ^ ey < units f (inf f) = omega (arith, times-le (2 ^ ey) l, units-counted f y, units-lt f h) in
+          let b : exactly f (unitsAt f q (exponent f y)) < top f = omega (arith, ap (exactly f) u, exactly-below f q ey (omega (arith, significand-small f y)) t, inf-below-top f) in
           record {
-            few = omega (arith, y-apart .small, pow-add 2 (f .frac) 1);
-            fits = t;
-            pattern = pattern-signed f (minus f x) (exactly f (q * 2 ^ ey)) (omega (arith, exactly-below f q ey (omega (arith, y-apart .small)) t, inf-below-top f));
-            is = sym (fmod-left (units f (magnitude f y)) some-units (kind-finite f y h) ∙ ap (λ u. signed f (minus f x) (exactly f u)) (left-is ∙ ap (λ u. u * 2 ^ ey) (sym e)));
+            few = omega (arith, significand-small f y, pow-add 2 (f .frac) 1);
+            fits = omega (arith, u);
+            below = b;
+            pattern = pattern-signed f (minus f x) (exactly f (unitsAt f q (exponent f y))) b;
+            is =
+                ap (λ n. signed f (minus f x) (exactly f n)) (u ∙ ap (λ n. n * 2 ^ ey) e ∙ sym left-is)
+                ∙ sym (fmod-left (units f (magnitude f y)) some-units (kind-finite f y h));
           }
 
-      pub fmod-reduces : Reduces f x y ex sx ey sy
-      fmod-reduces =
-          record {
-            ordered = exponents-ordered;
-            reach = past-one-small f (magnitude f x) (omega (arith, r .below, inf-below-top f));
-            some = divisor-some;
-            few-x = omega (arith, x-apart .small, pow-add 2 (f .frac) 1);
-            few-y = omega (arith, y-apart .small, pow-add 2 (f .frac) 1);
-            finishes = finishes-left;
-          }
+      pub fmod-reduces : Reduces f x y
+      fmod-reduces = record { ordered = fields-ordered; some = divisor-some; finishes = finishes-left }
 
 -- ---- by the tests of the code
 neither : (a b : Bool) → (a || b) ≡ false → (a ≡ false) × (b ≡ false)
@@ -137,11 +139,40 @@ module _ {p e : ℕ} (w : Fits p e) (x y : ℕ) where
       fmod-lesser (format p e) x y (infinity-some w) (remains (format p e) (infinity-some w) x y has) h
       (ltb-true (magnitude (format p e) x) (magnitude (format p e) y) (second (noRemainder (format p e) x y) (ltb (magnitude (format p e) x) (magnitude (format p e) y)) has s))
 
-  pub reduces : settled (format p e) x y ≡ false → Reduces (format p e) x y (past (format p e) x) (sig (format p e) x) (past (format p e) y) (sig (format p e) y)
+  pub reduces : settled (format p e) x y ≡ false → Reduces (format p e) x y
   reduces s =
       let (has, l) = neither (noRemainder (format p e) x y) (ltb (magnitude (format p e) x) (magnitude (format p e) y)) s in
       fmod-reduces (format p e) x y (infinity-some w) (remains (format p e) (infinity-some w) x y has) (ltb-false (magnitude (format p e) x) (magnitude (format p e) y) l)
 
+-- ---- by parts: unpacked operands, with the exponents a and b
+module _ {p e : ℕ} (w : Fits p e) (x y : ℕ) (r : Reduces (format p e) x y) {a b : ℤ} (i : a ≡ exponent (format p e) x) (j : b ≡ exponent (format p e) y) where
+  abbrev f : Format
+  f = format p e
+
+  exponent-x : (up a ≡ up (pos (unitsExp f x) -ℤ pos (low f))) × (dn a ≡ dn (pos (unitsExp f x) -ℤ pos (low f)))
+  exponent-x = eqZ-fact (i ∙ sym (exponent-is f x))
+
+  exponent-y : (up b ≡ up (pos (unitsExp f y) -ℤ pos (low f))) × (dn b ≡ dn (pos (unitsExp f y) -ℤ pos (low f)))
+  exponent-y = eqZ-fact (j ∙ sym (exponent-is f y))
+
+  pub not-negative : T (leZ b a)
+  not-negative =
+      leZ-of b a (omega (arith, exponent-x, exponent-y, subZ (pos (unitsExp f x)) (pos (low f)), subZ (pos (unitsExp f y)) (pos (low f)), r .ordered))
+
+  -- and significands s and t
+  pub parts-are : {s t k : ℕ} → s ≡ significand f x → t ≡ significand f y → pos k ≡ a -ℤ b
+      → ((s ≡ significand f x) × (k ≡ unitsExp f x - unitsExp f y) × (t ≡ significand f y)) × (s < 2 ^ (p + 1)) × (0 < t) × (t < 2 ^ (p + 1)) × (k < 2 ^ 16)
+  parts-are {s} {t} {k} g h m =
+      let shift : k ≡ unitsExp f x - unitsExp f y =
+      omega
+      (arith, eqZ-fact m, subZ a b, oneZ (a -ℤ b), exponent-x, exponent-y, subZ (pos (unitsExp f x)) (pos (low f)), subZ (pos (unitsExp f y)) (pos (low f)), r .ordered) in (
+        (g, shift, h),
+        omega (arith, significand-small f x, pow-add 2 p 1),
+        omega (arith, r .some),
+        omega (arith, significand-small f y, pow-add 2 p 1),
+        omega (arith, field-in-word w x),
+      )
+
 -- significands and a shift that are the definition's leave what it leaves
-pub left-by-parts : (f : Format) (x y : ℕ) {a b c : ℕ} → (a ≡ sig f x) × (b ≡ past f x - past f y) × (c ≡ sig f y) → a * 2 ^ b % c ≡ leftOf f x y
+pub left-by-parts : (f : Format) (x y : ℕ) {a b c : ℕ} → (a ≡ significand f x) × (b ≡ unitsExp f x - unitsExp f y) × (c ≡ significand f y) → a * 2 ^ b % c ≡ leftOf f x y
 left-by-parts f x y (i, j, k) = λ n. i n * 2 ^ j n % k n

@@ -2,16 +2,23 @@
 ghost use mathlib.Core.Path.{_≡_};
 ghost use mathlib.Core.Bool.{true, false};
 ghost use Prim.Native.Nat.{_+_, _-_, _<_, _^_};
+ghost use lib.Dec.{T};
+ghost use lib.IntN.{pos, _-ℤ_};
+ghost use lib.Signed.{leZ, mag};
 ghost use Rattle.ieee.specs.Format.{b64, b32};
 ghost use Rattle.ieee.specs.Pattern.{Pattern};
 ghost use Rattle.ieee.specs.Fmod.{fmodOf};
 ghost use Rattle.fmt_fields.specs.Width.{format, Fits};
-ghost use Rattle.fmod.specs.Division.{settled, past, sig, leftOf};
+ghost use Rattle.fmt_decode.specs.Significand.{significand, unitsExp};
+ghost use Rattle.fmod.specs.Division.{settled, leftOf};
 use crate::routes::reduction32;
 use crate::routes::reduction64;
-use fmt_decode::pack::into_sig_exp;
+use fmt_decode::norm::Norm;
+use fmt_decode::norm::unpack;
+use fmt_decode::norm::unpack_normal;
 use fmt_decode::pack::pack;
 use fmt_decode::remainder::has_no_remainder;
+use fmt_fields::exponent_field;
 use fmt_fields::is_negative;
 use fmt_fields::pattern::magnitude_of;
 use fmt_fields::pattern::nan;
@@ -46,20 +53,30 @@ fn settled_answer(frac: u32, expo: u32, x: u64, y: u64) -> u64
     x
 }
 
-fn unpack(frac: u32, expo: u32, x: u64, y: u64) -> Division
-    requires { ⌜ Fits frac expo × (settled (format frac expo) x y ≡ false) ⌝ }
-    ensures { λ d. ⌜ ((d .sig ≡ sig (format frac expo) x)
-        × (d .shift ≡ past (format frac expo) x - past (format frac expo) y)
-        × (d .by ≡ sig (format frac expo) y))
-        × (d .sig < 2 ^ (frac + 1)) × (0 < d .by) × (d .by < 2 ^ (frac + 1)) × (d .shift < 2 ^ 16) ⌝ }
+// Two unpacked numbers as a division: the shift is the difference of their exponents.
+fn as_division(a: Norm, b: Norm) -> Division
+    requires { ⌜ (mag (a .exp) < 2 ^ 17) × (mag (b .exp) < 2 ^ 17) × T (leZ (b .exp) (a .exp)) ⌝ }
+    ensures { λ d. ⌜ (d .sig ≡ a .sig) × (pos (d .shift) ≡ a .exp -ℤ b .exp) × (d .by ≡ b .sig) ⌝ }
 {
-    let a = into_sig_exp(frac, expo, magnitude_of(frac, expo, x));
-    let b = into_sig_exp(frac, expo, magnitude_of(frac, expo, y));
     Division {
         sig: a.sig,
-        shift: a.exp - b.exp,
+        shift: (a.exp - b.exp) as u32,
         by: b.sig,
     }
+}
+
+// Both operands as their fields give them: normalised, a subnormal one would lengthen the shift. Where y is normal so is x, which is not below it.
+fn division_of(frac: u32, expo: u32, x: u64, y: u64) -> Division
+    requires { ⌜ Fits frac expo × (settled (format frac expo) x y ≡ false) ⌝ }
+    ensures { λ d. ⌜ ((d .sig ≡ significand (format frac expo) x)
+        × (d .shift ≡ unitsExp (format frac expo) x - unitsExp (format frac expo) y)
+        × (d .by ≡ significand (format frac expo) y))
+        × (d .sig < 2 ^ (frac + 1)) × (0 < d .by) × (d .by < 2 ^ (frac + 1)) × (d .shift < 2 ^ 16) ⌝ }
+{
+    if exponent_field(frac, expo, y) > 0 {
+        return as_division(unpack_normal(frac, expo, x), unpack_normal(frac, expo, y));
+    }
+    as_division(unpack(frac, expo, x), unpack(frac, expo, y))
 }
 
 // The remainder of the significands at the exponent of y, with the sign of x. A zero has that sign too.
@@ -67,7 +84,7 @@ fn finish(frac: u32, expo: u32, x: u64, y: u64, left: u64) -> u64
     requires { ⌜ Fits frac expo × (settled (format frac expo) x y ≡ false) × (left ≡ leftOf (format frac expo) x y) ⌝ }
     ensures { λ r. ⌜ (r ≡ fmodOf (format frac expo) x y) × Pattern (format frac expo) r ⌝ }
 {
-    let b = into_sig_exp(frac, expo, magnitude_of(frac, expo, y));
+    let b = unpack(frac, expo, y);
     let m = pack(frac, expo, left, b.exp);
     with_sign(frac, expo, is_negative(frac, expo, x), m)
 }
@@ -78,7 +95,7 @@ pub fn fmod64(x: u64, y: u64) -> u64
     if is_settled(52, 11, x, y) {
         return settled_answer(52, 11, x, y);
     }
-    let d = unpack(52, 11, x, y);
+    let d = division_of(52, 11, x, y);
     finish(52, 11, x, y, reduction64(d.sig, d.shift, d.by))
 }
 
@@ -88,6 +105,6 @@ pub fn fmod32(x: u32, y: u32) -> u32
     if is_settled(23, 8, x as u64, y as u64) {
         return settled_answer(23, 8, x as u64, y as u64) as u32;
     }
-    let d = unpack(23, 8, x as u64, y as u64);
+    let d = division_of(23, 8, x as u64, y as u64);
     finish(23, 8, x as u64, y as u64, reduction32(d.sig, d.shift, d.by)) as u32
 }

@@ -12,7 +12,7 @@ use Rattle.ieee.specs.Pattern.{magnitude, field, fraction, finite}
 use Rattle.ieee.proofs.Units.{units-zero, units-lt}
 use Rattle.ieee.proofs.Patterns.{kind-nan, kind-infinite, kind-finite}
 use Rattle.ieee.proofs.Fields.{magnitude-fields, field-finite}
-use Rattle.fmt_decode.specs.Norm.{asideBy, aside}
+use Rattle.fmt_decode.specs.Aside.{asideBy, aside}
 
 module _ (f : Format) (x : ℕ) where
   pub aside-zero : 0 < inf f → magnitude f x ≡ 0 → aside f x ≡ true

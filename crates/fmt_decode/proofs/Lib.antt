@@ -1,7 +1,7 @@
 pub mod Asides
 pub mod InUnits
-pub mod MovedUp
 pub mod Packs
+pub mod Ranges
 pub mod Significands
 pub mod Sorts
 pub mod Zeros

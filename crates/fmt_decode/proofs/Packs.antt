@@ -1,11 +1,10 @@
--- A magnitude as a significand and an exponent, over the format: unpacked and packed. Assumes nothing.
-use Prim.Native.Nat.{ℕ, zero, suc, _+_, _-_, _*_, _/_, _%_, _^_, _≤_, _<_}
-use mathlib.Core.Path.{_≡_, sym, ap, _∙_, subst}
+-- A significand and an exponent packed into a magnitude, over the format. Assumes nothing.
+use Prim.Native.Nat.{ℕ, zero, suc, _+_, _-_, _*_, _^_, _≤_, _<_}
+use mathlib.Core.Path.{_≡_, sym, ap, _∙_}
 use native.Mathlib.Nat.{two-pow-succ}
 use native.Mathlib.Omega.{arith, by-contra}
 use lib.Pow.{pow-add, pow-pos, pow-mono}
 use Rattle.algebra.proofs.Products.{order, times, times-le, mul-lt-cancel, mul-le-cancel}
-use Rattle.algebra.proofs.Quotients.{div-mod, div-is}
 use Rattle.algebra.proofs.Powers.{pow-diff}
 use Rattle.algebra.proofs.Leading.{Fills}
 use Rattle.ieee.specs.Format.{Format, top, inf, units}
@@ -30,62 +29,6 @@ units-packed f s d l h =
     low : (d : ℕ) → (0 < d → 2 ^ f .frac ≤ s) → s < 2 ^ f .frac → units f (s + d * 2 ^ f .frac) ≡ s * 2 ^ d
     low zero h b = ap (units f) (omega arith) ∙ units-at f 0 s b ∙ omega arith
     low (suc d) h b = let k = h (omega arith) in absurd (omega arith)
-
--- ---- unpacked
--- m by the exponent field less 1 and the significand
-pub record Apart (f : Format) (m d s : ℕ) : Type 0 where
-  pub sum : s + d * 2 ^ f .frac ≡ m
-  pub small : s < 2 * 2 ^ f .frac
-  pub implicit : 0 < d → 2 ^ f .frac ≤ s
-  pub counts : units f m ≡ s * 2 ^ d
-
-abbrev pub pastOne : Format → ℕ → ℕ
-pastOne f m = m / 2 ^ f .frac - 1
-
-abbrev pub significand : Format → ℕ → ℕ
-significand f m = m - pastOne f m * 2 ^ f .frac
-
-pub apart : (f : Format) (m : ℕ) → Apart f m (pastOne f m) (significand f m)
-apart f m =
-    let (e, l) = div-mod m (2 ^ f .frac) (pow-pos (f .frac)) in
-    go (m / 2 ^ f .frac) (m % 2 ^ f .frac) e l
-  where
-    whole : (d s : ℕ) → s + d * 2 ^ f .frac ≡ m → s < 2 * 2 ^ f .frac → (0 < d → 2 ^ f .frac ≤ s) → units f m ≡ s * 2 ^ d
-    whole d s e l h = ap (units f) (sym e) ∙ units-packed f s d l h
-
-    go : (q r : ℕ) → q * 2 ^ f .frac + r ≡ m → r < 2 ^ f .frac → Apart f m (q - 1) (m - (q - 1) * 2 ^ f .frac)
-    go zero r e l =
-        record {
-          sum = omega arith;
-          small = omega arith;
-          implicit = λ z. absurd (omega arith);
-          counts = whole 0 (m - 0 * 2 ^ f .frac) (omega arith) (omega arith) (λ z. absurd (omega arith));
-        }
-    go (suc q) r e l =
-        subst (λ d. Apart f m d (m - d * 2 ^ f .frac)) (omega arith)
-        (record {
-          sum = omega arith;
-          small = omega arith;
-          implicit = λ z. omega arith;
-          counts = whole q (m - q * 2 ^ f .frac) (omega arith) (omega arith) (λ z. omega arith);
-        })
-
--- a magnitude below one exponent field is its own significand
-pub apart-low : (f : Format) (m U : ℕ) → U ≡ 2 ^ f .frac → m < U → (0 ≡ pastOne f m) × (m ≡ significand f m)
-apart-low f m U e l =
-    let z : m / 2 ^ f .frac ≡ 0 = div-is m (2 ^ f .frac) 0 m (omega arith) (omega arith) .0 in
-    let o : pastOne f m ≡ 0 = omega arith in
-    (omega arith, omega (arith, times (2 ^ f .frac) o))
-
--- any other has a field of at least 1
-pub apart-high : (f : Format) (m U : ℕ) → U ≡ 2 ^ f .frac → U ≤ m → (1 ≤ m / U) × (m / U - 1 ≡ pastOne f m) × ((m / U - 1) * U ≡ pastOne f m * 2 ^ f .frac)
-apart-high f m U e l =
-    let (d, r) = div-mod m U (omega (arith, pow-pos (f .frac))) in
-    (mul-lt-cancel 0 (m / U) U (omega arith), (λ i. m / e i - 1), (λ i. (m / e i - 1) * e i))
-
--- the exponent field less 1 is below the number of fields
-pub past-one-small : (f : Format) (m : ℕ) → m < top f → pastOne f m < 2 ^ f .expo
-past-one-small f m l = mul-lt-cancel (pastOne f m) (2 ^ f .expo) (2 ^ f .frac) (omega (arith, apart f m .sum, pow-add 2 (f .frac) (f .expo)))
 
 -- ---- packed
 -- the magnitude of a significand over d exponent fields stands for the units that it counts

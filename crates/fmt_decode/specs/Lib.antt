@@ -1,4 +1,4 @@
+pub mod Aside
 pub mod Classes
-pub mod Norm
 pub mod Rows
 pub mod Significand

@@ -1,5 +1,4 @@
-// Operands unpacked and packed: magnitudes, significands with signed exponents, operands of a remainder.
+// Numbers unpacked into a significand, a signed exponent and a sign; magnitudes packed; operands that have no remainder.
 pub mod norm;
 pub mod pack;
 pub mod remainder;
-pub mod significand;

@@ -6,15 +6,11 @@ use native.Mathlib.Nat.{two-pow-succ}
 use native.Mathlib.Omega.{arith}
 use lib.IntN.{ℤ, pos, negsuc, _+ℤ_, _-ℤ_}
 use lib.Pow.{pow-add, pow-pos, pow-mono}
-use lib.Dec.{T}
-use lib.Signed.{mag, leZ}
-use mir.Syntax.{w32}
-use mir.Val.{SFits}
 use Rattle.algebra.proofs.Products.{times, times-le, mul-le-cancel}
 use Rattle.algebra.proofs.Quotients.{div-mod, div-is}
 use Rattle.algebra.proofs.Powers.{pow-diff}
 use Rattle.algebra.proofs.Integers.{up, addZ, subZ, oneZ, eqZ-fact}
-use Rattle.ieee.specs.Format.{Format, units, inf}
+use Rattle.ieee.specs.Format.{Format, low, units, inf}
 use Rattle.ieee.specs.Pattern.{Pattern, minus, magnitude, signed, unlike, withSign, kind, finite}
 use Rattle.ieee.specs.Round.{exactly}
 use Rattle.ieee.specs.Remquo.{remquoOf, quotientOf}
@@ -22,11 +18,11 @@ use Rattle.ieee.proofs.Units.{units-lt, units-zero}
 use Rattle.ieee.proofs.Patterns.{kind-finite}
 use Rattle.ieee.proofs.Remquos.{remquo-rows}
 use Rattle.fmt_fields.specs.Width.{format, Fits}
-use Rattle.fmt_fields.proofs.Widths.{fields-small}
 use Rattle.fmt_exponents.specs.Field.{above}
 use Rattle.remquo.specs.Nearest.{goesUp, counted, leftOver}
-use Rattle.fmt_decode.specs.Significand.{sigOf, expOf, unitsAt}
-use Rattle.fmt_decode.proofs.Significands.{normal-is, exponent-small, exponent-least}
+use Rattle.fmt_decode.specs.Significand.{sigOf, expOf, unitsAt, InRange}
+use Rattle.fmt_decode.proofs.Significands.{normal-is}
+use Rattle.fmt_decode.proofs.Ranges.{exp-in-range}
 use Rattle.remquo.proofs.Nearest.{value-by-division, quotient-by-division, left-below-infinity}
 
 -- two finite nonzero numbers, unpacked
@@ -44,18 +40,17 @@ pub record Operands (p e x y sx sy : ℕ) (ex ey : ℤ) : Type 0 where
 pub record Settles (p e x y rem div quo : ℕ) (exp : ℤ) : Type 0 where
   pub rest : rem < div
   pub room : div < 2 ^ (p + 2)
-  pub small : mag exp < 2 ^ e
-  pub least : T (leZ (negsuc p) exp)
-  pub finite : unitsAt (leftOver rem div quo) exp < units (format p e) (inf (format p e))
-  pub value : signed (format p e) (unlike (minus (format p e) x) (goesUp rem div quo)) (exactly (format p e) (unitsAt (leftOver rem div quo) exp)) ≡ remquoOf (format p e) x y
+  pub range : InRange (format p e) exp
+  pub finite : unitsAt (format p e) (leftOver rem div quo) exp < units (format p e) (inf (format p e))
+  pub value : signed (format p e) (unlike (minus (format p e) x) (goesUp rem div quo)) (exactly (format p e) (unitsAt (format p e) (leftOver rem div quo) exp)) ≡ remquoOf (format p e) x y
   pub quotient : withSign (unlike (minus (format p e) x) (minus (format p e) y)) (counted rem div quo % 2 ^ 31) ≡ quotientOf (format p e) x y
 
 -- the same with the signs as computed
 pub settled-is : {p e x y rem div quo : ℕ} {exp : ℤ} → Settles p e x y rem div quo exp → (s t : Bool) → s ≡ minus (format p e) x → t ≡ minus (format p e) y → (v : ℕ) (q : ℤ)
-    → v ≡ signed (format p e) (unlike s (goesUp rem div quo)) (exactly (format p e) (unitsAt (leftOver rem div quo) exp)) → q ≡ withSign (unlike s t) (counted rem div quo % 2 ^ 31)
+    → v ≡ signed (format p e) (unlike s (goesUp rem div quo)) (exactly (format p e) (unitsAt (format p e) (leftOver rem div quo) exp)) → q ≡ withSign (unlike s t) (counted rem div quo % 2 ^ 31)
     → (v ≡ remquoOf (format p e) x y) × (q ≡ quotientOf (format p e) x y)
 settled-is {p} {e} {x} {y} {rem} {div} {quo} {exp} z s t i j v q h k = (
-  h ∙ ap (λ b. signed (format p e) (unlike b (goesUp rem div quo)) (exactly (format p e) (unitsAt (leftOver rem div quo) exp))) i ∙ z .value,
+  h ∙ ap (λ b. signed (format p e) (unlike b (goesUp rem div quo)) (exactly (format p e) (unitsAt (format p e) (leftOver rem div quo) exp))) i ∙ z .value,
   k ∙ ap₂ (λ a b. withSign (unlike a b) (counted rem div quo % 2 ^ 31)) i j ∙ z .quotient,
 )
 
@@ -63,10 +58,9 @@ settled-is {p} {e} {x} {y} {rem} {div} {quo} {exp} z s t i j v q h k = (
 record Placed (f : Format) (x s at : ℕ) (exp : ℤ) : Type 0 where
   least : 2 ^ f .frac ≤ s
   most : s < 2 * 2 ^ f .frac
-  exponent : exp ≡ pos (suc at) -ℤ pos (f .frac)
+  exponent : exp ≡ pos at -ℤ pos (f .frac + low f)
   counts : units f (magnitude f x) * 2 ^ f .frac ≡ s * 2 ^ at
-  small : mag exp < 2 ^ f .expo
-  least-exp : T (leZ (negsuc (f .frac)) exp)
+  range : InRange f exp
 
 at-exponent : {p e : ℕ} → Fits p e → (x s : ℕ) (exp : ℤ) → 0 < magnitude (format p e) x → (s ≡ sigOf (format p e) x) × (exp ≡ expOf (format p e) x) → (at : ℕ) × Placed (format p e) x s at exp
 at-exponent {p} {e} w x s exp l (i, j) =
@@ -78,8 +72,7 @@ at-exponent {p} {e} w x s exp l (i, j) =
         most = omega (arith, i, n .most);
         exponent = j ∙ n .exponent;
         counts = n .counts ∙ ap (λ t. t * 2 ^ at) (sym i);
-        small = subst (λ z. mag z < 2 ^ e) (sym j) (exponent-small f (w .fair) x at n);
-        least-exp = subst (λ z. T (leZ (negsuc p) z)) (sym j) (exponent-least f (w .fair) x at n);
+        range = subst (InRange f) (sym j) (exp-in-range w x l);
       },
     )
 
@@ -122,15 +115,7 @@ module _ {p e x y sx sy : ℕ} {ex ey : ℤ} (o : Operands p e x y sx sy ex ey) 
       let z = ex -ℤ ey in
       let w = z +ℤ pos 2 in
       omega
-      (arith, above-up w, addZ z (pos 2), subZ ex ey, subZ (pos (suc (a .0))) (pos p), subZ (pos (suc (b .0))) (pos p), eqZ-fact (a .1 .exponent), eqZ-fact (b .1 .exponent), oneZ w)
-
-  pub exponents-fit : SFits w32 ex × SFits w32 ey
-  exponents-fit =
-      let k = fields-small (o .wide) in
-      (record { sfits = omega (arith, a .1 .small) }, record { sfits = omega (arith, b .1 .small) })
-
-  pub exponents-small : (mag ex < 2 ^ 20) × (mag ey < 2 ^ 20)
-  exponents-small = let k = fields-small (o .wide) in (omega (arith, a .1 .small), omega (arith, b .1 .small))
+      (arith, above-up w, addZ z (pos 2), subZ ex ey, subZ (pos (a .0)) (pos (p + low f)), subZ (pos (b .0)) (pos (p + low f)), eqZ-fact (a .1 .exponent), eqZ-fact (b .1 .exponent), oneZ w)
 
   pub significands-room : (sx < 2 * sy) × (sy < 2 ^ 62)
   significands-room =
@@ -138,17 +123,16 @@ module _ {p e x y sx sy : ℕ} {ex ey : ℤ} (o : Operands p e x y sx sy ex ey) 
       (omega (arith, a .1 .most, b .1 .least), omega (arith, b .1 .most, pow-mono {i = p} {j = 61} (omega (arith, w .word, w .fair .expo-two))))
 
   -- both significands at one exponent, divided
-  settles : (c d at rem quo : ℕ) (exp : ℤ) → exp ≡ pos (suc at) -ℤ pos p → mag exp < 2 ^ e → T (leZ (negsuc p) exp) → 0 < d → d < 2 ^ (p + 2) → u * 2 ^ p ≡ c * 2 ^ at → suc v * 2 ^ p ≡ d * 2 ^ at → rem ≡ c % d → quo ≡ c / d % 2 ^ 32
+  settles : (c d at rem quo : ℕ) (exp : ℤ) → exp ≡ pos at -ℤ pos (p + low f) → InRange f exp → 0 < d → d < 2 ^ (p + 2) → u * 2 ^ p ≡ c * 2 ^ at → suc v * 2 ^ p ≡ d * 2 ^ at → rem ≡ c % d → quo ≡ c / d % 2 ^ 32
       → Settles p e x y rem d quo exp
-  settles c d at rem quo exp j small least some room first second r q =
+  settles c d at rem quo exp j range some room first second r q =
       record {
         rest = omega (arith, r, div-mod c d some);
         room = room;
-        small = small;
-        least = least;
-        finite = subst (λ z. unitsAt (leftOver rem d quo) z < units f (inf f)) (sym j) (left-below-infinity f x y u v is-x is-y c d at rem quo some first second r q (units-lt f (o .below-x)));
+        range = range;
+        finite = subst (λ z. unitsAt f (leftOver rem d quo) z < units f (inf f)) (sym j) (left-below-infinity f x y u v is-x is-y c d at rem quo some first second r q (units-lt f (o .below-x)));
         value =
-            ap (λ z. signed f (unlike (minus f x) (goesUp rem d quo)) (exactly f (unitsAt (leftOver rem d quo) z))) j
+            ap (λ z. signed f (unlike (minus f x) (goesUp rem d quo)) (exactly f (unitsAt f (leftOver rem d quo) z))) j
             ∙ value-by-division f x y u v is-x is-y c d at rem quo some first second r q;
         quotient = quotient-by-division f x y u v is-x is-y c d at rem quo some first second r q;
       }
@@ -173,7 +157,7 @@ module _ {p e x y sx sy : ℕ} {ex ey : ℤ} (o : Operands p e x y sx sy ex ey) 
   one-below n h z =
       let l : b .0 ≡ suc (a .0) = omega (arith, far-is n h) in
       let (q, r) = div-is sx (sy * 2) 0 sx (omega (arith, significands-room)) (omega arith) in
-      settles sx (sy * 2) (a .0) sx 0 ex (a .1 .exponent) (a .1 .small) (a .1 .least-exp) (omega (arith, b .1 .least, pow-pos p)) (omega (arith, b .1 .most, pow-add 2 p 2)) (a .1 .counts)
+      settles sx (sy * 2) (a .0) sx 0 ex (a .1 .exponent) (a .1 .range) (omega (arith, b .1 .least, pow-pos p)) (omega (arith, b .1 .most, pow-add 2 p 2)) (a .1 .counts)
       (ap (λ t. t * 2 ^ p) units-y ∙ b .1 .counts ∙ ap (λ k. sy * 2 ^ k) l ∙ omega (arith, times sy (two-pow-succ (a .0))))
       (sym r) (omega (arith, q))
 
@@ -181,6 +165,6 @@ module _ {p e x y sx sy : ℕ} {ex ey : ℤ} (o : Operands p e x y sx sy ex ey) 
   not-below n rem quo h l r q =
       let g : b .0 ≤ a .0 = omega (arith, far-is n h) in
       let k : a .0 - b .0 ≡ n - 2 = omega (arith, far-is n h) in
-      settles (sx * 2 ^ (n - 2)) sy (b .0) rem quo ey (b .1 .exponent) (b .1 .small) (b .1 .least-exp) (omega (arith, b .1 .least, pow-pos p)) (omega (arith, b .1 .most, pow-add 2 p 2))
+      settles (sx * 2 ^ (n - 2)) sy (b .0) rem quo ey (b .1 .exponent) (b .1 .range) (omega (arith, b .1 .least, pow-pos p)) (omega (arith, b .1 .most, pow-add 2 p 2))
       (a .1 .counts ∙ omega (arith, times sx (pow-diff g)) ∙ ap (λ i. sx * 2 ^ i * 2 ^ b .0) k)
       (ap (λ t. t * 2 ^ p) units-y ∙ b .1 .counts) r q

@@ -9,7 +9,7 @@ use lib.IntN.{pos, _-ℤ_}
 use lib.Pow.{pow-pos}
 use Rattle.algebra.proofs.Products.{times, times-le, mul-le-cancel, mul-lt-cancel}
 use Rattle.algebra.proofs.Quotients.{div-mod}
-use Rattle.ieee.specs.Format.{Format, units, inf}
+use Rattle.ieee.specs.Format.{Format, low, units, inf}
 use Rattle.ieee.specs.Pattern.{minus, signed, unlike, withSign, kind, finite}
 use Rattle.ieee.specs.Round.{even, exactly}
 use Rattle.ieee.specs.Whole.{whole}
@@ -30,10 +30,10 @@ module _ (f : Format) (s : Bool) (u v a d at : ℕ) (some : 0 < d) (first : u * 
   some-units = mul-lt-cancel 0 v (2 ^ f .frac) (omega (arith, second, times-le (2 ^ at) some, pow-pos at))
 
   -- the distance in units, by that of the whole numbers
-  in-units : (r t : ℕ) → r * 2 ^ f .frac ≡ t * 2 ^ at → r ≡ unitsAt t (pos (suc at) -ℤ pos (f .frac))
-  in-units r t e = sym (units-exact (f .frac) at t r e)
+  in-units : (r t : ℕ) → r * 2 ^ f .frac ≡ t * 2 ^ at → r ≡ unitsAt f t (pos at -ℤ pos (f .frac + low f))
+  in-units r t e = sym (units-exact f (f .frac) at t r e)
 
-  rest-of : (b : Bool) (n : ℕ) → n ≡ a / d + cond b 1 0 → rest f s u (n * v) ≡ signed f (unlike s b) (exactly f (unitsAt (cond b (d - a % d) (a % d)) (pos (suc at) -ℤ pos (f .frac))))
+  rest-of : (b : Bool) (n : ℕ) → n ≡ a / d + cond b 1 0 → rest f s u (n * v) ≡ signed f (unlike s b) (exactly f (unitsAt f (cond b (d - a % d) (a % d)) (pos at -ℤ pos (f .frac + low f))))
   rest-of true n e =
       let (q, r) = parts in
       let (c, l) = div-mod u v some-units in
@@ -44,7 +44,7 @@ module _ (f : Format) (s : Bool) (u v a d at : ℕ) (some : 0 < d) (first : u * 
       omega (arith, times (2 ^ f .frac) w, times (2 ^ at) z, r, second) in
       ap (λ t. cond t (signed f (not s) (exactly f (n * v - u))) (signed f s (exactly f (u - n * v)))) (lt-ltb u (n * v) (omega arith))
       ∙ ap (λ t. signed f (not s) (exactly f t)) (in-units (n * v - u) (d - a % d) k)
-      ∙ ap (λ t. signed f t (exactly f (unitsAt (d - a % d) (pos (suc at) -ℤ pos (f .frac))))) (turned s)
+      ∙ ap (λ t. signed f t (exactly f (unitsAt f (d - a % d) (pos at -ℤ pos (f .frac + low f))))) (turned s)
     where
       turned : (t : Bool) → not t ≡ unlike t true
       turned true = refl
@@ -56,7 +56,7 @@ module _ (f : Format) (s : Bool) (u v a d at : ℕ) (some : 0 < d) (first : u * 
       let k : u - n * v ≡ u % v = omega arith in
       ap (λ t. cond t (signed f (not s) (exactly f (n * v - u))) (signed f s (exactly f (u - n * v)))) (le-ltb u (n * v) (omega arith))
       ∙ ap (λ t. signed f s (exactly f t)) (in-units (u - n * v) (a % d) (ap (λ t. t * 2 ^ f .frac) k ∙ r))
-      ∙ ap (λ t. signed f t (exactly f (unitsAt (a % d) (pos (suc at) -ℤ pos (f .frac))))) (kept s)
+      ∙ ap (λ t. signed f t (exactly f (unitsAt f (a % d) (pos at -ℤ pos (f .frac + low f))))) (kept s)
     where
       kept : (t : Bool) → t ≡ unlike t false
       kept true = refl
@@ -73,7 +73,7 @@ module _ (f : Format) (s : Bool) (u v a d at : ℕ) (some : 0 < d) (first : u * 
   counts false = (u % v, parts .1)
 
   -- where it is at most the remainder, it is at most u
-  left-within : (b : Bool) → cond b (d - a % d) (a % d) ≤ a % d → unitsAt (cond b (d - a % d) (a % d)) (pos (suc at) -ℤ pos (f .frac)) ≤ u
+  left-within : (b : Bool) → cond b (d - a % d) (a % d) ≤ a % d → unitsAt f (cond b (d - a % d) (a % d)) (pos at -ℤ pos (f .frac + low f)) ≤ u
   left-within b l =
       let (r, e) = counts b in
       let t : cond b (d - a % d) (a % d) ≤ a = omega (arith, l, div-mod a d some) in
@@ -102,9 +102,9 @@ module _ (f : Format) (x y u w : ℕ) (is-x : kind f x ≡ finite u) (is-y : kin
         ∙ ap (λ b. a / d + cond b 1 0) (sym up-alike)
 
     pub value-by-division :
-        signed f (unlike (minus f x) (goesUp rem d quo)) (exactly f (unitsAt (leftOver rem d quo) (pos (suc at) -ℤ pos (f .frac)))) ≡ remquoOf f x y
+        signed f (unlike (minus f x) (goesUp rem d quo)) (exactly f (unitsAt f (leftOver rem d quo) (pos at -ℤ pos (f .frac + low f)))) ≡ remquoOf f x y
     value-by-division =
-        ap (λ t. signed f (unlike (minus f x) (goesUp rem d quo)) (exactly f (unitsAt t (pos (suc at) -ℤ pos (f .frac))))) left-alike
+        ap (λ t. signed f (unlike (minus f x) (goesUp rem d quo)) (exactly f (unitsAt f t (pos at -ℤ pos (f .frac + low f))))) left-alike
         ∙ sym (rest-of f (minus f x) u (suc w) a d at some first second (goesUp rem d quo) (whole even u (suc w)) number)
         ∙ sym (remquo-finite f x y u w is-x is-y)
 
@@ -112,7 +112,7 @@ module _ (f : Format) (x y u w : ℕ) (is-x : kind f x ≡ finite u) (is-y : kin
     quotient-by-division =
         ap (withSign (unlike (minus f x) (minus f y))) (kept-alike (a / d) quo (cond (goesUp rem d quo) 1 0) (whole even u (suc w)) is-quo number) ∙ sym (quotient-finite f x y u w is-x is-y)
 
-    pub left-below-infinity : u < units f (inf f) → unitsAt (leftOver rem d quo) (pos (suc at) -ℤ pos (f .frac)) < units f (inf f)
+    pub left-below-infinity : u < units f (inf f) → unitsAt f (leftOver rem d quo) (pos at -ℤ pos (f .frac + low f)) < units f (inf f)
     left-below-infinity l =
         let h = left-within f (minus f x) u (suc w) a d at some first second (goesUp rem d quo) (omega (arith, left-alike, is-rem, left-at-most-rest rem d quo)) in
-        omega (arith, ap (λ t. unitsAt t (pos (suc at) -ℤ pos (f .frac))) left-alike)
+        omega (arith, ap (λ t. unitsAt f t (pos at -ℤ pos (f .frac + low f))) left-alike)

@@ -9,12 +9,11 @@ ghost use Rattle.fmt_decode.specs.Classes.{Nonzero, Finite};
 ghost use Rattle.fmt_decode.specs.Rows.{noRemainder};
 use crate::answer::Remquo64;
 use crate::division::long_divide;
+use crate::lead::exponent_lead;
 use crate::settle::Remquo;
 use crate::settle::settle;
+use fmt_decode::norm::norm_of;
 use fmt_decode::remainder::has_no_remainder;
-use fmt_decode::significand::exponent_lead;
-use fmt_decode::significand::significand_of;
-use fmt_fields::is_negative;
 use fmt_fields::pattern::infinity;
 use fmt_fields::pattern::magnitude_of;
 
@@ -26,22 +25,21 @@ fn remquo_numbers(frac: u32, expo: u32, x: u64, y: u64) -> Remquo
         × Nonzero (format frac expo) y × Finite (format frac expo) y ⌝ }
     ensures { λ r. ⌜ (r .value ≡ remquoOf (format frac expo) x y) × (r .quotient ≡ quotientOf (format frac expo) x y) ⌝ }
 {
-    let a = significand_of(frac, expo, x);
-    let b = significand_of(frac, expo, y);
-    let far = exponent_lead(a.exp, b.exp);
+    let a = norm_of(frac, expo, x);
+    let b = norm_of(frac, expo, y);
+    let far = exponent_lead(a, b);
     if far == 0 {
         return Remquo {
             value: x,
             quotient: 0,
         };
     }
-    let neg = is_negative(frac, expo, x);
-    let differ = neg != is_negative(frac, expo, y);
+    let differ = a.neg != b.neg;
     if far == 1 {
-        return settle(frac, expo, neg, differ, a.sig, b.sig * 2, 0, a.exp);
+        return settle(frac, expo, a.neg, differ, a.sig, b.sig * 2, 0, a.exp);
     }
     let d = long_divide(a.sig, b.sig, far - 2);
-    settle(frac, expo, neg, differ, d.rem, b.sig, d.quo, b.exp)
+    settle(frac, expo, a.neg, differ, d.rem, b.sig, d.quo, b.exp)
 }
 
 // A finite x, and y not a zero. With an infinite y, or a zero x, x is its own remainder.

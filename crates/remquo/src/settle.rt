@@ -1,17 +1,14 @@
 // The end of a division to the nearest: the multiple below or the next, the remainder as a pattern, and the quotient with its sign.
 ghost use mathlib.Core.Path.{_≡_};
 ghost use Prim.Native.Nat.{_+_, _%_, _<_, _^_};
-ghost use lib.Dec.{T};
-ghost use lib.IntN.{negsuc};
-ghost use lib.Signed.{mag, leZ};
 ghost use Rattle.ieee.specs.Format.{units, inf};
 ghost use Rattle.ieee.specs.Pattern.{signed, unlike, withSign};
 ghost use Rattle.ieee.specs.Round.{exactly};
 ghost use Rattle.fmt_fields.specs.Width.{format, Fits};
-ghost use Rattle.fmt_decode.specs.Significand.{unitsAt};
+ghost use Rattle.fmt_decode.specs.Significand.{unitsAt, InRange};
 ghost use Rattle.remquo.specs.Nearest.{goesUp, counted, leftOver};
 use crate::division::nearest_multiple;
-use fmt_decode::significand::pack_significand;
+use fmt_decode::pack::pack;
 use fmt_fields::with_sign;
 
 // The remainder and the quotient, at any width.
@@ -42,13 +39,14 @@ pub fn settle(
     quo: u32,
     exp: i32,
 ) -> Remquo
-    requires { ⌜ Fits frac expo × (rem < div) × (div < 2 ^ (frac + 2)) × (mag exp < 2 ^ expo) × T (leZ (negsuc frac) exp)
-        × (unitsAt (leftOver rem div quo) exp < units (format frac expo) (inf (format frac expo))) ⌝ }
-    ensures { λ r. ⌜ (r .value ≡ signed (format frac expo) (unlike neg (goesUp rem div quo)) (exactly (format frac expo) (unitsAt (leftOver rem div quo) exp)))
+    requires { ⌜ Fits frac expo × (rem < div) × (div < 2 ^ (frac + 2)) × InRange (format frac expo) exp
+        × (unitsAt (format frac expo) (leftOver rem div quo) exp < units (format frac expo) (inf (format frac expo))) ⌝ }
+    ensures { λ r. ⌜ (r .value ≡ signed (format frac expo) (unlike neg (goesUp rem div quo))
+        (exactly (format frac expo) (unitsAt (format frac expo) (leftOver rem div quo) exp)))
         × (r .quotient ≡ withSign differ (counted rem div quo % 2 ^ 31)) ⌝ }
 {
     let near = nearest_multiple(rem, div, quo);
-    let rest = pack_significand(frac, expo, near.rest, exp);
+    let rest = pack(frac, expo, near.rest, exp);
     Remquo {
         value: with_sign(frac, expo, neg != near.up, rest),
         quotient: signed_quotient(differ, near.quo),

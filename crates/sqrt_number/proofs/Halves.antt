@@ -13,8 +13,8 @@ use Rattle.ieee.specs.Scalbn.{scaled}
 use Rattle.ieee.specs.Sqrt.{sqrtOf}
 use Rattle.fmt_fields.specs.Width.{format, Fits}
 use Rattle.fmt_fields.proofs.Widths.{fields-small}
-use Rattle.fmt_decode.specs.Norm.{normExpOf}
-use Rattle.fmt_decode.proofs.Zeros.{norm-exp-bounds}
+use Rattle.fmt_decode.specs.Significand.{expOf}
+use Rattle.fmt_decode.proofs.Ranges.{exp-in-range, range-bounds}
 use Rattle.sqrt_digits.specs.Floor.{FloorRoot, pairs}
 use Rattle.sqrt_digits.proofs.Digits.{root-small}
 use Rattle.sqrt_table.proofs.Wholes.{longer-root, nearest-alike}
@@ -26,8 +26,8 @@ use Rattle.sqrt_number.proofs.Splits.{fraction-few, leads, word-room, w
 module _ {p e : ℕ} (w : Fits p e) (x : ℕ) (a : Above (format p e) x) (sig up : ℕ) (h : Parts (format p e) x sig up) where
   pub up-small : up < 2 ^ 18
   up-small =
-      let z = normExpOf (format p e) x in
-      omega (arith, eqZ-fact (h .up-is), addZ z (pos (lift (format p e))), norm-exp-bounds w x (a .some), fields-small w, w .word)
+      let z = expOf (format p e) x in
+      omega (arith, eqZ-fact (h .up-is), addZ z (pos (lift (format p e))), range-bounds w z (exp-in-range w x (a .some)), fields-small w, w .word)
 
   pub led : Leads p sig
   led = leads w x sig (a .some) (h .sig-is)

@@ -1,5 +1,5 @@
 -- The root of a positive number is the whole root of its radicand, with the sticky mark, rounded. Assumes nothing.
-use Prim.Native.Nat.{ℕ, suc, _+_, _-_, _*_, _/_, _%_, _^_, _≤_, _<_}
+use Prim.Native.Nat.{ℕ, _+_, _-_, _*_, _/_, _%_, _^_, _≤_, _<_}
 use mathlib.Core.Path.{_≡_, sym, ap, _∙_}
 use mathlib.Core.Bool.{Bool, true, false}
 use native.Mathlib.Omega.{arith}
@@ -20,7 +20,6 @@ use Rattle.ieee.proofs.Patterns.{kind-finite, value-finite}
 use Rattle.ieee.proofs.Signs.{abs-signed}
 use Rattle.ieee.proofs.Sqrts.{sqrt-answer}
 use Rattle.ieee.proofs.Units.{units-zero, units-lt}
-use Rattle.fmt_decode.specs.Norm.{normExpOf}
 use Rattle.round_step.specs.Mark.{Marked}
 use Rattle.round_step.proofs.MarkedAnswers.{root-marked, sticky-root-answer}
 use Rattle.fmt_decode.specs.Significand.{sigOf, expOf}
@@ -38,13 +37,13 @@ mark-of v n k t false e p h r =
     root-marked v n k t 1 p h r (omega arith) (λ z. absurd (omega arith)) (λ z. eqb-false (t * t) k (sym e))
 
 -- ---- the exponents add up
-module _ (f : Format) (g : Fair f) (x : ℕ) (some : 0 < magnitude f x) (lifted : ℕ) (is : pos lifted ≡ normExpOf f x +ℤ pos (lift f)) where
+module _ (f : Format) (g : Fair f) (x : ℕ) (some : 0 < magnitude f x) (lifted : ℕ) (is : pos lifted ≡ expOf f x +ℤ pos (lift f)) where
   abbrev p : ℕ
   p = f .frac
 
   exponents : (at : ℕ) → Normal f x at → at + low f + 8 ≡ p + p + 4 + lifted
   exponents at n =
-      omega (arith, eqZ-fact is, addZ (normExpOf f x) (pos (lift f)), subZ (expOf f x) (pos (suc (low f))), eqZ-fact (n .exponent), subZ (pos (suc at)) (pos p), fields-twice f g, pow-pos (f .expo - 1), g .frac-pos)
+      omega (arith, eqZ-fact is, addZ (expOf f x) (pos (lift f)), eqZ-fact (n .exponent), subZ (pos at) (pos (p + low f)), fields-twice f g, pow-pos (f .expo - 1), g .frac-pos)
 
   -- where the fraction leaves room below the bias, the answer is a normal number
   pub up-least : f .frac + 2 ≤ 2 ^ (f .expo - 1) → 4 ≤ lifted

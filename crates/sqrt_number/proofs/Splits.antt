@@ -3,19 +3,17 @@ use Prim.Native.Nat.{ℕ, zero, suc, _+_, _-_, _*_, _/_, _%_, _^_, _≤_, _<_}
 use mathlib.Core.Path.{_≡_, sym, ap, _∙_}
 use native.Mathlib.Nat.{two-pow-succ}
 use native.Mathlib.Omega.{arith, by-contra}
-use lib.IntN.{pos, _+ℤ_}
+use lib.IntN.{ℤ, pos, _+ℤ_}
 use lib.Pow.{pow-add, pow-pos, pow-mono, shl-shr}
 use Rattle.algebra.proofs.Products.{times, times-le, mul-lt-cancel}
 use Rattle.algebra.proofs.Powers.{pow-diff}
 use Rattle.algebra.proofs.Roots.{sq-lt}
 use Rattle.algebra.proofs.Quotients.{div-mod, mod-is}
-use Rattle.algebra.proofs.Integers.{addZ, subZ, eqZ, eqZ-fact}
-use Rattle.ieee.specs.Format.{Format, Fair, low}
-use Rattle.ieee.specs.Pattern.{magnitude, field, fraction}
+use Rattle.ieee.specs.Format.{Format, Fair}
+use Rattle.ieee.specs.Pattern.{magnitude, field}
 use Rattle.fmt_fields.specs.Width.{format, Fits}
-use Rattle.fmt_decode.specs.Norm.{normExpOf}
-use Rattle.fmt_decode.specs.Significand.{sigOf, expOf}
-use Rattle.fmt_decode.proofs.Significands.{normal-is, sig-normal, exp-normal}
+use Rattle.fmt_decode.specs.Significand.{significand, exponent, sigOf, expOf}
+use Rattle.fmt_decode.proofs.Significands.{normal-is, normal-as-given}
 use Rattle.sqrt_digits.specs.Floor.{pairs}
 use Rattle.sqrt_table.specs.Table.{Serves}
 use Rattle.sqrt_table.proofs.Rule.{serves-low, serves-high}
@@ -38,15 +36,13 @@ leads {p} {e} w x sig some i =
     let n = normal-is (format p e) (w .fair) x some .1 in
     record { least = omega (arith, n .least); most = omega (arith, n .most); few = fraction-few w }
 
--- a normal number has both parts in its fields
-pub normal-parts : (f : Format) → Fair f → (x : ℕ) → 0 < field f x → (sig up : ℕ) → sig ≡ 2 ^ f .frac + fraction f x → up ≡ field f x + 2 ^ (f .expo - 1) + 1 → Parts f x sig up
-normal-parts f g x some sig up s u =
-    let e = expOf f x in
-    record {
-      sig-is = s ∙ sig-normal f x some;
-      up-is = eqZ (pos up) (normExpOf f x +ℤ pos (lift f))
-          (omega (arith, u, addZ (normExpOf f x) (pos (lift f)), subZ e (pos (suc (low f))), eqZ-fact (exp-normal f x some), fields-twice f g, pow-pos (f .expo - 1), g .frac-pos));
-    }
+-- the parts, from an unpacked number and its exponent lifted
+module _ (f : Format) (x : ℕ) {sig up : ℕ} {exp : ℤ} (u : pos up ≡ exp +ℤ pos (lift f)) where
+  pub parts : sig ≡ sigOf f x → exp ≡ expOf f x → Parts f x sig up
+  parts s e = record { sig-is = s; up-is = u ∙ ap (λ z. z +ℤ pos (lift f)) e }
+
+  pub normal-parts : 0 < magnitude f x → 0 < field f x → sig ≡ significand f x → exp ≡ exponent f x → Parts f x sig up
+  normal-parts some normal s e = let (i, j) = normal-as-given f x some normal in parts (s ∙ i) (e ∙ j)
 
 module _ (p sig up : ℕ) (l : Leads p sig) where
   abbrev odd : ℕ

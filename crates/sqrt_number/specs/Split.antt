@@ -5,8 +5,7 @@ use mathlib.Core.Bool.{Bool, false, cond}
 use lib.IntN.{ℤ, pos, _+ℤ_, _-ℤ_}
 use Rattle.ieee.specs.Format.{Format, inf}
 use Rattle.ieee.specs.Pattern.{magnitude, minus}
-use Rattle.fmt_decode.specs.Norm.{normExpOf}
-use Rattle.fmt_decode.specs.Significand.{sigOf}
+use Rattle.fmt_decode.specs.Significand.{sigOf, expOf}
 use Rattle.sqrt_digits.specs.Floor.{pairs}
 use Rattle.sqrt_table.specs.Residual.{Residual, nearestBy}
 
@@ -35,7 +34,7 @@ pub record Above (f : Format) (x : ℕ) : Type 0 where
 -- its significand and its lifted exponent
 pub record Parts (f : Format) (x sig up : ℕ) : Type 0 where
   pub sig-is : sig ≡ sigOf f x
-  pub up-is : pos up ≡ normExpOf f x +ℤ pos (lift f)
+  pub up-is : pos up ≡ expOf f x +ℤ pos (lift f)
 
 -- sig has its leading bit at bit p
 pub record Leads (p sig : ℕ) : Type 0 where

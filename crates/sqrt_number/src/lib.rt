@@ -2,21 +2,19 @@
 ghost use mathlib.Core.Path.{_≡_};
 ghost use mathlib.Core.Bool.{false};
 ghost use Prim.Native.Nat.{_+_, _-_, _*_, _/_, _%_, _≤_, _<_, _^_};
-ghost use lib.Dec.{T};
-ghost use lib.IntN.{pos, negℤ, _+ℤ_};
-ghost use lib.Signed.{leZ, mag};
-ghost use Rattle.ieee.specs.Format.{b64, b32, low};
+ghost use lib.IntN.{pos, _+ℤ_};
+ghost use Rattle.ieee.specs.Format.{b64, b32};
 ghost use Rattle.ieee.specs.Pattern.{field};
 ghost use Rattle.ieee.specs.Round.{answer, ties-to-even};
 ghost use Rattle.ieee.specs.Scalbn.{scaled};
 ghost use Rattle.ieee.specs.Sqrt.{sqrtOf};
 ghost use Rattle.fmt_fields.specs.Width.{format, Fits};
-ghost use Rattle.fmt_decode.specs.Classes.{Nonzero, Finite};
+ghost use Rattle.fmt_decode.specs.Significand.{InRange};
 ghost use Rattle.sqrt_table.specs.Table.{Serves};
-ghost use Rattle.sqrt_number.specs.Split.{lift, halfOf, markedBy, wordOf, nearestOf, Above, Parts, Leads, Ready, Room, NearestRoot};
+ghost use Rattle.sqrt_number.specs.Split.{lift, halfOf, markedBy, wordOf, nearestOf, Above, Leads, Ready, Room, NearestRoot};
+use fmt_decode::norm::Norm;
 use fmt_decode::norm::norm_of;
-use fmt_fields::exponent_field;
-use fmt_fields::fraction_field;
+use fmt_decode::norm::unpack_normal;
 use round_step::round::round;
 use sqrt_digits::RootFloor;
 use sqrt_digits::floor_root;
@@ -24,18 +22,12 @@ use sqrt_table::root::root24;
 use sqrt_table::root::root53;
 use word_bits::pow;
 
-// A significand and its lifted exponent.
-struct Lifted {
-    sig: u64,
-    up: u32,
-}
-
 // The exponent with a constant added, so that it is not negative and is halved as a whole number.
-fn lift_exponent(frac: u32, expo: u32, exp: i32) -> u32
-    requires { ⌜ Fits frac expo × (mag exp < 2 ^ 20) × T (leZ (negℤ (pos (low (format frac expo) + frac))) exp) ⌝ }
-    ensures { λ r. ⌜ pos r ≡ exp +ℤ pos (lift (format frac expo)) ⌝ }
+fn lift_exponent(frac: u32, expo: u32, n: Norm) -> u32
+    requires { ⌜ Fits frac expo × InRange (format frac expo) (n .exp) ⌝ }
+    ensures { λ r. ⌜ pos r ≡ n .exp +ℤ pos (lift (format frac expo)) ⌝ }
 {
-    (exp + (pow(expo) as i32 + frac as i32)) as u32
+    (n.exp + (pow(expo) as i32 + frac as i32)) as u32
 }
 
 // The exponent of the marked root.
@@ -52,28 +44,6 @@ fn mark_inexact(root: u64, exact: bool) -> u64
     ensures { λ r. ⌜ r ≡ markedBy root exact ⌝ }
 {
     if exact { root * 2 } else { root * 2 + 1 }
-}
-
-// Unpacks a positive number.
-fn split(frac: u32, expo: u32, x: u64) -> Lifted
-    requires { ⌜ Fits frac expo × Nonzero (format frac expo) x × Finite (format frac expo) x ⌝ }
-    ensures { λ r. ⌜ Parts (format frac expo) x (r .sig) (r .up) ⌝ }
-{
-    let n = norm_of(frac, expo, x);
-    Lifted {
-        sig: n.sig,
-        up: lift_exponent(frac, expo, n.exp),
-    }
-}
-
-// Unpacks a normal positive number: its pattern has both parts as they are.
-fn split_normal(frac: u32, expo: u32, x: u64) -> Lifted
-    requires { ⌜ Fits frac expo × (0 < field (format frac expo) x) ⌝ }
-    ensures { λ r. ⌜ Parts (format frac expo) x (r .sig) (r .up) ⌝ }
-{
-    let sig = pow(frac) + fraction_field(frac, expo, x);
-    let up = exponent_field(frac, expo, x) + pow(expo - 1) + 1;
-    Lifted { sig, up: up as u32 }
 }
 
 // The radicand: the significand shifted left by as many pairs of bits as a word allows, and one bit further where the exponent is odd.
@@ -125,12 +95,13 @@ pub fn sqrt_by_digits(frac: u32, expo: u32, x: u64) -> u64
     requires { ⌜ Fits frac expo × Above (format frac expo) x ⌝ }
     ensures { λ r. ⌜ r ≡ sqrtOf (format frac expo) x ⌝ }
 {
-    let s = split(frac, expo, x);
+    let n = norm_of(frac, expo, x);
+    let up = lift_exponent(frac, expo, n);
     round_root(
         frac,
         expo,
-        floor_root(word_of(frac, s.sig, s.up), frac + 2),
-        s.up,
+        floor_root(word_of(frac, n.sig, up), frac + 2),
+        up,
     )
 }
 
@@ -157,16 +128,16 @@ pub fn sqrt_number64(x: u64) -> u64
     requires { ⌜ Above b64 x ⌝ }
     ensures { λ r. ⌜ r ≡ sqrtOf b64 x ⌝ }
 {
-    let s = split(52, 11, x);
-    by_table64(s.sig, s.up)
+    let n = norm_of(52, 11, x);
+    by_table64(n.sig, lift_exponent(52, 11, n))
 }
 
 pub fn sqrt_number32(x: u64) -> u32
     requires { ⌜ Above b32 x ⌝ }
     ensures { λ r. ⌜ r ≡ sqrtOf b32 x ⌝ }
 {
-    let s = split(23, 8, x);
-    by_table32(s.sig, s.up)
+    let n = norm_of(23, 8, x);
+    by_table32(n.sig, lift_exponent(23, 8, n))
 }
 
 // The root of a normal positive number, by the table. There are no leading zeros to count.
@@ -174,14 +145,14 @@ pub fn sqrt_normal64(x: u64) -> u64
     requires { ⌜ Above b64 x × (0 < field b64 x) ⌝ }
     ensures { λ r. ⌜ r ≡ sqrtOf b64 x ⌝ }
 {
-    let s = split_normal(52, 11, x);
-    by_table64(s.sig, s.up)
+    let n = unpack_normal(52, 11, x);
+    by_table64(n.sig, lift_exponent(52, 11, n))
 }
 
 pub fn sqrt_normal32(x: u64) -> u32
     requires { ⌜ Above b32 x × (0 < field b32 x) ⌝ }
     ensures { λ r. ⌜ r ≡ sqrtOf b32 x ⌝ }
 {
-    let s = split_normal(23, 8, x);
-    by_table32(s.sig, s.up)
+    let n = unpack_normal(23, 8, x);
+    by_table32(n.sig, lift_exponent(23, 8, n))
 }

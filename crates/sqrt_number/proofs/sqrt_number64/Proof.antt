@@ -1,22 +1,21 @@
 -- The parts are the number's, and so is their root (Halves). Assumes nothing.
 use native.Mathlib.Omega.{arith}
-use borrow.Author.Needs.{needs}
+use Rattle.ieee.specs.Format.{b64}
 use Rattle.fmt_fields.proofs.Widths.{fits64}
+use Rattle.sqrt_number.specs.Split.{Parts}
 use Rattle.sqrt_number.proofs.Halves.{ready, nearest-answers}
+use Rattle.sqrt_number.proofs.Splits.{parts}
 use Rattle.sqrt_number.proofs.sqrt_number64.Statement.{statement}
 use Rattle.sqrt_number.proofs.sqrt_number64.Tie as tie
 
-by-table64-requires : tie.Need-by-table64-requires
-by-table64-requires c κs = let s = c .before in ready fits64 (s .args .x) (s .pre) _ _ (c .split .ensures) (omega arith)
-
-returns : tie.Need-returns
-returns c =
-    let a = c .before in
-    let s = a .before in
-    nearest-answers fits64 (s .args .x) (s .pre) _ _ (a .split .ensures) (omega arith) (c .by-table64 .result) (c .by-table64 .ensures)
-
-split-requires : tie.Need-split-requires
-split-requires c κs = search needs
+split : (c : tie.After-lift-exponent) → Parts b64 (c .before .before .args .x) (c .before .norm-of .result .sig) (c .lift-exponent .result)
+split c = let n = c .before in let s = n .before in parts b64 (s .args .x) (c .lift-exponent .ensures) (n .norm-of .ensures .0) (n .norm-of .ensures .1)
 
 pub sqrt-number64-spec : {M : Type 1} → statement M
-sqrt-number64-spec = tie.close (tie.spec split-requires by-table64-requires returns)
+sqrt-number64-spec =
+    tie.close
+    (tie.spec
+    (λ c κs. (fits64, c .pre .some))
+    (λ c κs. (fits64, c .norm-of .ensures .3))
+    (λ c κs. let s = c .before .before in ready fits64 (s .args .x) (s .pre) _ _ (split c) (omega arith))
+    (λ c. let l = c .before in let s = l .before .before in nearest-answers fits64 (s .args .x) (s .pre) _ _ (split l) (omega arith) (c .by-table64 .result) (c .by-table64 .ensures)))

@@ -9,7 +9,7 @@ use Rattle.ieee.specs.Format.{Format, inf}
 use Rattle.ieee.specs.Pattern.{magnitude}
 use Rattle.fmt_fields.specs.Width.{format}
 use Rattle.fmt_fields.proofs.Widths.{four-fields}
-use Rattle.fmt_decode.specs.Norm.{aside}
+use Rattle.fmt_decode.specs.Aside.{aside}
 use Rattle.fma.proofs.Rows.{last-is-high}
 use Rattle.fma.proofs.special.is_special.Statement.{statement}
 use Rattle.fma.proofs.special.is_special.Tie as tie

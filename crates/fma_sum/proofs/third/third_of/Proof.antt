@@ -14,10 +14,10 @@ use mir.Facts.{toZ-ofZ}
 use Rattle.ieee.specs.Format.{Format}
 use Rattle.ieee.specs.Pattern.{magnitude}
 use Rattle.fmt_fields.specs.Width.{format}
-use Rattle.fmt_decode.specs.Norm.{normExpOf}
+use Rattle.fmt_decode.specs.Significand.{expOf}
 use Rattle.fmt_decode.proofs.Asides.{Ordinary}
 use Rattle.fma_laws.specs.Fused.{thirdSig, lowest}
-use Rattle.fma_laws.proofs.Room.{below-pow, third-bits, norm-exp-mag}
+use Rattle.fma_laws.proofs.Room.{below-pow, third-bits}
 use Rattle.fma_sum.proofs.third.third_of.Statement.{statement}
 use Rattle.fma_sum.proofs.third.third_of.Tie as tie
 
@@ -35,7 +35,7 @@ returns : tie.Need-returns
 returns c =
     let s = c .before .before .before in
     let e : eqb (magnitude (f s) (s .args .z)) 0 ≡ true = sym (c .before .before .is-zero .ensures) ∙ c .before .if1 .taken in
-    ((sym (ap (λ b. cond b 0 (thirdSig (f s) (s .args .z))) e), sym (ap (λ b. cond b lowest (normExpOf (f s) (s .args .z))) e), c .is-negative .ensures), pow-pos (s .args .frac + 2), omega arith)
+    ((sym (ap (λ b. cond b 0 (thirdSig (f s) (s .args .z))) e), sym (ap (λ b. cond b lowest (expOf (f s) (s .args .z))) e), c .is-negative .ensures), pow-pos (s .args .frac + 2), omega arith)
 
 -- z is a number that is not a zero
 module _ (c : tie.Else1) where
@@ -49,7 +49,7 @@ module _ (c : tie.Else1) where
   o = let e = eqb-false (magnitude (f i) (i .args .z)) 0 other in record { least = omega (arith, e); most = i .pre .1 }
 
 norm-of-requires : tie.Need-norm-of-requires
-norm-of-requires c κs = (i c .pre .0, o c .least, o c .most)
+norm-of-requires c κs = (i c .pre .0, o c .least)
 
 module _ (c : tie.After-norm-of) where
   abbrev s : tie.Start
@@ -59,7 +59,7 @@ module _ (c : tie.After-norm-of) where
   short = omega (arith, c .norm-of .ensures .0, third-bits (f s) (s .pre .0 .fair) (s .args .z) (o (c .before)))
 
   small : mag (c .norm-of .result .exp) < 2 ^ 18
-  small = rw (c .norm-of .ensures .1) (norm-exp-mag (s .pre .0) (s .args .z) (o (c .before)))
+  small = omega (arith, c .norm-of .ensures .3 .small)
 
 mul-t7 : tie.Need-mul-t7
 mul-t7 c =
@@ -73,7 +73,7 @@ returns-2 c =
     let j = s n in
     let back : SFits w32 (n .norm-of .result .exp) = record { sfits = omega (arith, small n) } in
     let sig : n .norm-of .result .sig * 2 ≡ cond (eqb (magnitude (f j) (j .args .z)) 0) 0 (thirdSig (f j) (j .args .z)) = rw (other (n .before)) (omega (arith, n .norm-of .ensures .0)) in
-    let exp : n .norm-of .result .exp ≡ cond (eqb (magnitude (f j) (j .args .z)) 0) lowest (normExpOf (f j) (j .args .z)) = rw (other (n .before)) (n .norm-of .ensures .1) in
+    let exp : n .norm-of .result .exp ≡ cond (eqb (magnitude (f j) (j .args .z)) 0) lowest (expOf (f j) (j .args .z)) = rw (other (n .before)) (n .norm-of .ensures .1) in
     simp (toZ-ofZ, back) ((sig, exp, n .norm-of .ensures .2), short n, small n)
 
 pub third-of-spec : {M : Type 1} → statement M

@@ -23,6 +23,6 @@ fmod32-spec =
     (λ c. search needs)
     (λ c κs. (fits32, unsettled c))
     (λ c κs. search needs)
-    (λ c κs. let o = c .before .before in let a = o .before .before .args in (fits32, unsettled o, c .reduction32 .ensures ∙ left-by-parts b32 (a .x) (a .y) (c .before .unpack .ensures .0)))
+    (λ c κs. let o = c .before .before in let a = o .before .before .args in (fits32, unsettled o, c .reduction32 .ensures ∙ left-by-parts b32 (a .x) (a .y) (c .before .division-of .ensures .0)))
     (λ c. search needs)
     (λ c. search needs))

@@ -22,5 +22,5 @@ fmod64-spec =
     (λ c. search needs)
     (λ c κs. (fits64, unsettled c))
     (λ c κs. search needs)
-    (λ c κs. let o = c .before .before in let a = o .before .before .args in (fits64, unsettled o, c .reduction64 .ensures ∙ left-by-parts b64 (a .x) (a .y) (c .before .unpack .ensures .0)))
+    (λ c κs. let o = c .before .before in let a = o .before .before .args in (fits64, unsettled o, c .reduction64 .ensures ∙ left-by-parts b64 (a .x) (a .y) (c .before .division-of .ensures .0)))
     (λ c. search needs))

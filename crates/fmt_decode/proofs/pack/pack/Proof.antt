@@ -1,102 +1,136 @@
--- The significand stays below its implicit bit and takes all of up, or reaches it and leaves the rest to the exponent field (Packs). Assumes nothing.
-use Prim.Native.Nat.{ℕ, _+_, _-_, _*_, _%_, _^_, _<_}
-use mathlib.Core.Path.{_≡_}
-use native.Mathlib.Nat.{mod-eq-of-lt}
+-- An exponent of at least that of the smallest units is the one that `pack_units` takes; any other shifts bits out (InUnits); no step wraps (Ranges). Assumes nothing.
+use Prim.Native.Nat.{_*_, _^_, _≤_, _<_}
+use mathlib.Core.Path.{_≡_, ap, _∙_}
+use mathlib.Core.Bool.{true, false}
 use native.Mathlib.Omega.{arith}
 use borrow.Author.Needs.{needs}
-use lib.Count.{leadingZeros}
-use Rattle.algebra.proofs.Products.{times}
-use Rattle.algebra.proofs.Leading.{Fills, leading-fills}
+use lib.IntN.{ℤ, pos, natAbs, _+ℤ_, _-ℤ_}
+use lib.Pow.{pow-add}
+use lib.Signed.{ltZ}
+use mir.Syntax.{w32}
+use mir.Val.{SFits}
+use mir.Facts.{toZ-ofZ}
+use Rattle.algebra.proofs.Integers.{up, dn, addZ, subZ, oneZ, absZ, eqZ-fact, ltZ-true, ltZ-false, sfitsZ, nonNegZ}
+use Rattle.ieee.specs.Format.{Format, low}
 use Rattle.ieee.specs.Round.{exactly}
 use Rattle.fmt_fields.specs.Width.{format}
-use Rattle.fmt_decode.proofs.Packs.{leads, zero-packed, low-packed, high-packed}
+use Rattle.fmt_decode.specs.Significand.{shifted, unitsAt}
+use Rattle.fmt_decode.proofs.InUnits.{shifted-up, shifted-down, own-magnitude}
+use Rattle.fmt_decode.proofs.Ranges.{low-small, low-fits, range-bounds, units-fit}
 use Rattle.fmt_decode.proofs.pack.pack.Statement.{statement}
 use Rattle.fmt_decode.proofs.pack.pack.Tie as tie
 
-module _ (c : tie.Else1) where
+abbrev fmt : tie.Start → Format
+fmt s = format (s .args .frac) (s .args .expo)
+
+module _ (c : tie.After-low-of) where
   abbrev s : tie.Start
   s = c .before
 
-  abbrev z : ℕ
-  z = leadingZeros 64 (s .args .sig)
+  -- the exponent in smallest units
+  abbrev by : ℤ
+  by = s .args .exp +ℤ c .low-of .result
 
-  top : Fills 64 (s .args .sig) z
-  top = leading-fills 64 (s .args .sig) (omega (arith, c .if1 .left)) (s .fits .sig .fits)
+  by-is : by ≡ s .args .exp +ℤ pos (low (fmt s))
+  by-is = ap (λ z. s .args .exp +ℤ z) (c .low-of .ensures)
+
+  low-word : SFits w32 (c .low-of .result)
+  low-word = low-fits (s .pre .0) (c .low-of .result) (c .low-of .ensures)
+
+  by-bounds : (up by < 2 ^ 19) × (dn by ≤ s .args .frac)
+  by-bounds =
+      omega (arith, addZ (s .args .exp) (c .low-of .result), eqZ-fact (c .low-of .ensures), low-small (s .pre .0), range-bounds (s .pre .0) (s .args .exp) (s .pre .2), oneZ by, oneZ (s .args .exp))
+
+  by-fits : SFits w32 by
+  by-fits = units-fit (s .pre .0) (s .args .exp) (c .low-of .result) (omega (arith, s .pre .2 .small)) (c .low-of .ensures)
+
+  units-are : shifted (s .args .sig) by ≡ unitsAt (fmt s) (s .args .sig) (s .args .exp)
+  units-are = ap (shifted (s .args .sig)) by-is
+
+module _ (c : tie.Then1) where
+  abbrev l : tie.After-low-of
+  l = c .before
+
+  abbrev down : ℤ
+  down = pos 0 -ℤ by l
+
+  below : ltZ (by l) (pos 0) ≡ true
+  below = simp (toZ-ofZ, s l .fits .exp, low-word l, by-fits l) at (c .if1 .taken)
+
+  down-small : (dn down ≡ 0) × (natAbs down < 64)
+  down-small =
+      omega (arith, ltZ-true (by l) (pos 0) below, subZ (pos 0) (by l), absZ down, oneZ (by l), by-bounds l, s l .pre .0 .word)
+
+  down-fits : SFits w32 down
+  down-fits = sfitsZ w32 down (omega (arith, down-small, absZ down)) (omega (arith, down-small))
+
+module _ (c : tie.Else1) where
+  abbrev h : tie.After-low-of
+  h = c .before
+
+  not-below : ltZ (by h) (pos 0) ≡ false
+  not-below = simp (toZ-ofZ, s h .fits .exp, low-word h, by-fits h) at (c .if1 .left)
+
+  by-natural : dn (by h) ≡ 0
+  by-natural = omega (arith, ltZ-false (by h) (pos 0) not-below, oneZ (by h))
+
+  units-up : s h .args .sig * 2 ^ natAbs (by h) ≡ unitsAt (fmt (s h)) (s h .args .sig) (s h .args .exp)
+  units-up = shifted-up (s h .args .sig) (by h) not-below ∙ units-are h
 
 returns : tie.Need-returns
-returns c = let s = c .before in omega (arith, zero-packed (s .pre .0) (s .args .sig) (s .args .up) (s .pre .3) (omega (arith, c .if1 .taken)))
+returns c =
+    let o = l c in
+    let a = s o .args in
+    simp (toZ-ofZ, s o .fits .exp, low-word o, by-fits o, down-fits c)
+    (own-magnitude (fmt (s o)) (a .sig) (natAbs (down c)) _ (omega (arith, s o .pre .1, pow-add 2 (a .frac) 1)) (shifted-down (a .sig) (by o) (below c) ∙ units-are o) (s o .pre .3))
 
 returns-2 : tie.Need-returns-2
 returns-2 c =
-    let s = c .before .before in
-    let (l, e) = low-packed (s .pre .0) (s .args .sig) (s .args .up) (s .pre .3) (z (c .before)) (s .pre .1) (top (c .before)) (omega (arith, c .if2 .taken)) in
-    omega (arith, mod-eq-of-lt l)
+    let o = h (c .before) in
+    (simp (toZ-ofZ, s o .fits .exp, low-word o, by-fits o) at (c .pack-units .ensures)) ∙ ap (exactly (fmt (s o))) (units-up (c .before))
 
--- the significand shifted left until its leading bit is the implicit one, and the rest of up above it
-module _ (c : tie.After-pow) where
-  abbrev o : tie.Else1
-  o = c .before .before
+low-of-requires : tie.Need-low-of-requires
+low-of-requires c κs = search needs
 
-  abbrev up : ℕ
-  up = s o .args .up
-
-  abbrev most : ℕ
-  most = z o - (63 - s o .args .frac)
-
-  parts : (s o .args .sig * 2 ^ most < 2 ^ 64) × (s o .args .sig * 2 ^ most + (up - most) * 2 ^ s o .args .frac ≡ exactly (format (s o .args .frac) (s o .args .expo)) (s o .args .sig * 2 ^ up))
-      × (s o .args .sig * 2 ^ most + (up - most) * 2 ^ s o .args .frac < 2 ^ 63)
-  parts = high-packed (s o .pre .0) (s o .args .sig) up (s o .pre .3) (z o) (s o .pre .1) (top o) (omega (arith, c .before .if2 .left))
-
-  sum-is : s o .args .sig * 2 ^ most % 2 ^ 64 + (up - most) * c .pow .result ≡ s o .args .sig * 2 ^ most + (up - most) * 2 ^ s o .args .frac
-  sum-is = omega (arith, mod-eq-of-lt (parts .0), times (up - most) (c .pow .ensures))
-
-returns-3 : tie.Need-returns-3
-returns-3 c = omega (arith, sum-is c, parts c .1)
-
-sub-most : tie.Need-sub-most
-sub-most c = search needs
-
-sub-most-2 : tie.Need-sub-most-2
-sub-most-2 c = leads (c .before .pre .0) (c .before .args .sig) (z c) (c .before .pre .1) (top c) .least
-
-shl-result : tie.Need-shl-result
-shl-result c = omega (arith, c .if2 .taken, top (c .before) .fewer)
-
-cast-result : tie.Need-cast-result
-cast-result c = search needs
-
-shl-result-2 : tie.Need-shl-result-2
-shl-result-2 c = omega (arith, top (c .before) .fewer)
+add-up : tie.Need-add-up
+add-up c = simp (toZ-ofZ, s c .fits .exp, low-word c) (by-fits c)
 
 sub-result : tie.Need-sub-result
-sub-result c = search needs
+sub-result c = simp (toZ-ofZ, s (l c) .fits .exp, low-word (l c), by-fits (l c)) (down-fits c)
+
+cast-result : tie.Need-cast-result
+cast-result c =
+    simp (toZ-ofZ, s (l c) .fits .exp, low-word (l c), by-fits (l c), down-fits c)
+    (nonNegZ (down c) (omega (arith, down-small c)), record { fits = omega (arith, down-small c) })
 
 cast-result-2 : tie.Need-cast-result-2
-cast-result-2 c = search needs
+cast-result-2 c = simp (toZ-ofZ, s (l c) .fits .exp, low-word (l c), by-fits (l c), down-fits c) (record { fits = omega (arith, down-small c) })
 
-pow-requires : tie.Need-pow-requires
-pow-requires c κs = search needs
+shr-result : tie.Need-shr-result
+shr-result c = simp (toZ-ofZ, s (l c) .fits .exp, low-word (l c), by-fits (l c), down-fits c) (down-small c .1)
 
-mul-result : tie.Need-mul-result
-mul-result c = record { fits = omega (arith, sum-is c, parts c .2) }
+cast-pack-units : tie.Need-cast-pack-units
+cast-pack-units c =
+    let o = h c in
+    simp (toZ-ofZ, s o .fits .exp, low-word o, by-fits o)
+    (nonNegZ (by o) (omega (arith, by-natural c)), record { fits = omega (arith, absZ (by o), by-natural c, by-bounds o) })
 
-add-result : tie.Need-add-result
-add-result c = record { fits = omega (arith, sum-is c, parts c .2) }
+pack-units-requires : tie.Need-pack-units-requires
+pack-units-requires c κs =
+    let o = h c in
+    simp (toZ-ofZ, s o .fits .exp, low-word o, by-fits o) (s o .pre .0, s o .pre .1, omega (arith, units-up c, s o .pre .3))
 
 pub pack-spec : {M : Type 1} → statement M
 pack-spec =
     tie.close
     (tie.spec
-    returns
-    sub-most
-    sub-most-2
-    shl-result
-    returns-2
-    cast-result
-    shl-result-2
+    low-of-requires
+    add-up
     sub-result
+    cast-result
     cast-result-2
-    pow-requires
-    mul-result
-    add-result
-    returns-3)
+    shr-result
+    returns
+    cast-pack-units
+    pack-units-requires
+    returns-2)

@@ -23,10 +23,11 @@ use Rattle.remquo.proofs.settle.settle.Tie as tie
 abbrev fmt : tie.Start → Format
 fmt s = format (s .args .frac) (s .args .expo)
 
-restored-is : (c : tie.After-pack-significand) → let s = c .before .before in c .pack-significand .result ≡ exactly (fmt s) (unitsAt (leftOver (s .args .rem) (s .args .div) (s .args .quo)) (s .args .exp))
+restored-is : (c : tie.After-pack) → let s = c .before .before in c .pack .result ≡ exactly (fmt s) (unitsAt (fmt s) (leftOver (s .args .rem) (s .args .div) (s .args .quo)) (s .args .exp))
 restored-is c =
     let s = c .before .before in
-    (simp (toZ-ofZ, s .fits .exp) at (c .pack-significand .ensures)) ∙ ap (λ t. exactly (fmt s) (unitsAt t (s .args .exp))) (c .before .nearest-multiple .ensures .1)
+    let e : c .pack .result ≡ exactly (fmt s) (unitsAt (fmt s) (c .before .nearest-multiple .result .rest) (s .args .exp)) = simp (toZ-ofZ, s .fits .exp) at (c .pack .ensures) in
+    e ∙ ap (λ t. exactly (fmt s) (unitsAt (fmt s) t (s .args .exp))) (c .before .nearest-multiple .ensures .1)
 
 back : (c : tie.After-signed-quotient) → SFits w32 (c .signed-quotient .result)
 back c = record { sfits = c .signed-quotient .ok }
@@ -46,23 +47,23 @@ returns c =
 nearest-multiple-requires : tie.Need-nearest-multiple-requires
 nearest-multiple-requires c κs = (c .pre .1, omega (arith, c .pre .2, pow-mono {i = c .args .frac + 2} {j = 63} (omega (arith, c .pre .0 .word, c .pre .0 .fair .expo-two))))
 
-pack-significand-requires : tie.Need-pack-significand-requires
-pack-significand-requires c κs =
+pack-requires : tie.Need-pack-requires
+pack-requires c κs =
     let s = c .before in
     let a = s .args in
     let e = c .nearest-multiple .ensures .1 in
     let h = left-at-most-half (a .rem) (a .div) (a .quo) (s .pre .1) in
     simp (toZ-ofZ, s .fits .exp)
-    (s .pre .0, omega (arith, h, e, pow-add 2 (a .frac) 1, pow-add 2 (a .frac) 2, s .pre .2), s .pre .3, s .pre .4, subst (λ t. unitsAt t (a .exp) < units (fmt s) (inf (fmt s))) (sym e) (s .pre .5))
+    (s .pre .0, omega (arith, h, e, pow-add 2 (a .frac) 1, pow-add 2 (a .frac) 2, s .pre .2), s .pre .3, subst (λ t. unitsAt (fmt s) t (a .exp) < units (fmt s) (inf (fmt s))) (sym e) (s .pre .4))
 
 with-sign-requires : tie.Need-with-sign-requires
 with-sign-requires c κs =
     let r = c .before in
     let s = r .before .before in
-    (s .pre .0, omega (arith, restored-is r, rounded-le (fmt s) even (ratio (unitsAt (leftOver (s .args .rem) (s .args .div) (s .args .quo)) (s .args .exp)) 1), inf-below-top (fmt s)))
+    (s .pre .0, omega (arith, restored-is r, rounded-le (fmt s) even (ratio (unitsAt (fmt s) (leftOver (s .args .rem) (s .args .div) (s .args .quo)) (s .args .exp)) 1), inf-below-top (fmt s)))
 
 signed-quotient-requires : tie.Need-signed-quotient-requires
 signed-quotient-requires c κs = search needs
 
 pub settle-spec : {M : Type 1} → statement M
-settle-spec = tie.close (tie.spec nearest-multiple-requires pack-significand-requires with-sign-requires signed-quotient-requires returns)
+settle-spec = tie.close (tie.spec nearest-multiple-requires pack-requires with-sign-requires signed-quotient-requires returns)
