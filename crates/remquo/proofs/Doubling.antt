@@ -16,6 +16,13 @@ module _ (r d : ℕ) where
   pub one-at-most : r < 2 * d → r / d ≤ 1
   one-at-most l = by-contra (r / d) 1 (λ h. omega (arith, times-le d h, div-mod r d (omega arith)))
 
+-- the difference w of two words, wrapped: its top bit says which is less
+pub wrapped-below : (r d w : ℕ) → r < 2 * d → d < 2 ^ 63 → (w + d) % 2 ^ 64 ≡ r → w < 2 ^ 64 → 2 ^ 63 ≤ w → r < d
+wrapped-below r d w l h e g t = omega arith
+
+pub wrapped-not-below : (r d w : ℕ) → r < 2 * d → d < 2 ^ 63 → (w + d) % 2 ^ 64 ≡ r → w < 2 ^ 64 → w < 2 ^ 63 → (d ≤ r) × (w ≡ r - d)
+wrapped-not-below r d w l h e g t = omega arith
+
 -- the first quotient is one bit, and fits in 32
 pub first-bit : (a d : ℕ) → a < 2 * d → a / d ≡ a / d % 2 ^ 32
 first-bit a d l = sym (mod-eq-of-lt (omega (arith, one-at-most a d l)))

@@ -16,16 +16,18 @@ pub struct Choice {
     pub quo: u32,
 }
 
-// One bit, for a remainder below twice the divisor and a quotient whose last bit is still 0.
+// One bit, for a remainder below twice the divisor and a quotient whose last bit is still 0. As in libm the top bit of the wrapped difference says which is less:
+// of a comparison the compiler would make a jump here, which cannot be foreseen.
 pub fn divide_bit(rem: u64, div: u64, quo: u32) -> Division
-    requires { ⌜ (rem < 2 * div) × (quo % 2 ≡ 0) ⌝ }
+    requires { ⌜ (rem < 2 * div) × (div < 2 ^ 63) × (quo % 2 ≡ 0) ⌝ }
     ensures { λ r. ⌜ (r .rem ≡ rem % div) × (r .quo ≡ quo + rem / div) ⌝ }
 {
-    if rem < div {
+    let less = std::num::wrapping_sub_u64(rem, div);
+    if less >= 0x8000_0000_0000_0000 {
         return Division { rem, quo };
     }
     Division {
-        rem: rem - div,
+        rem: less,
         quo: quo + 1,
     }
 }

@@ -46,7 +46,7 @@ mul-divide-bit-2 : tie.Need-mul-divide-bit-2 Inv-loop μ-loop
 mul-divide-bit-2 c = record { fits = omega arith }
 
 divide-bit-requires-2 : tie.Need-divide-bit-requires-2 Inv-loop μ-loop
-divide-bit-requires-2 c κs = (omega (arith, below (c .before)), omega arith)
+divide-bit-requires-2 c κs = (omega (arith, below (c .before)), omega arith, omega arith)
 
 sub-left : tie.Need-sub-left Inv-loop μ-loop
 sub-left c = omega arith
