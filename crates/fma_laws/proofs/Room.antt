@@ -1,6 +1,6 @@
 -- The sizes of the counts and the exponents of a fused sum. Assumes nothing.
 use Prim.Native.Nat.{ℕ, suc, _+_, _-_, _*_, _^_, _≤_, _<_, min}
-use mathlib.Core.Path.{_≡_}
+use mathlib.Core.Path.{_≡_, refl}
 use native.Mathlib.Nat.{mul-le-mul}
 use native.Mathlib.Omega.{arith}
 use lib.Pow.{pow-add, pow-pos, pow-mono}
@@ -68,7 +68,7 @@ module _ {p e : ℕ} (w : Fits p e) (x y : ℕ) (ox : Ordinary (format p e) x) (
   product-bounds =
       let a = expOf (format p e) x in
       let b = expOf (format p e) y in
-      omega (arith, addZ a b, oneZ (a +ℤ b), range-bounds w a (exp-in-range w x (ox .least)), range-bounds w b (exp-in-range w y (oy .least)), low-small w, w .word)
+      omega (arith, addZ a b, oneZ (a +ℤ b), range-bounds w a (exp-in-range w x (ox .least) refl), range-bounds w b (exp-in-range w y (oy .least) refl), low-small w, w .word)
 
   pub product-small : mag (expOf (format p e) x +ℤ expOf (format p e) y) < 2 ^ 18
   product-small = magZ (expOf (format p e) x +ℤ expOf (format p e) y) (2 ^ 18) (omega (arith, product-bounds)) (omega (arith, product-bounds))

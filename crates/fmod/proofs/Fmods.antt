@@ -6,10 +6,10 @@ use native.Mathlib.Nat.{mod-lt}
 use native.Mathlib.Omega.{arith, both-ways, by-contra}
 use lib.Dec.{T, ltb}
 use lib.IntN.{ℤ, pos, _-ℤ_}
-use lib.Signed.{leZ}
+use lib.Signed.{leZ, mag}
 use lib.Pow.{pow-add, pow-pos}
 use borrow.Author.Tests.{ltb-true, ltb-false}
-use Rattle.algebra.proofs.Integers.{up, dn, subZ, oneZ, eqZ-fact, leZ-of}
+use Rattle.algebra.proofs.Integers.{up, dn, subZ, eqZ-fact, leZ-of}
 use Rattle.algebra.proofs.Products.{order, times, times-le}
 use Rattle.algebra.proofs.Quotients.{div-mod, div-is}
 use Rattle.algebra.proofs.Powers.{pow-diff}
@@ -22,7 +22,7 @@ use Rattle.ieee.proofs.Units.{units-zero, units-lt}
 use Rattle.ieee.proofs.Patterns.{inf-below-top, pattern-signed, kind-infinite, kind-finite}
 use Rattle.ieee.proofs.Remainders.{fmod-rows}
 use Rattle.fmt_fields.specs.Width.{format, Fits}
-use Rattle.fmt_decode.specs.Significand.{significand, unitsExp, exponent, unitsAt}
+use Rattle.fmt_decode.specs.Significand.{significand, unitsExp, exponent, Unpacked, unitsAt}
 use Rattle.fmt_decode.proofs.InUnits.{units-given}
 use Rattle.fmt_decode.proofs.Packs.{exactly-below}
 use Rattle.fmt_decode.proofs.Significands.{exponent-is, significand-some, significand-small, units-counted}
@@ -144,32 +144,29 @@ module _ {p e : ℕ} (w : Fits p e) (x y : ℕ) where
       let (has, l) = neither (noRemainder (format p e) x y) (ltb (magnitude (format p e) x) (magnitude (format p e) y)) s in
       fmod-reduces (format p e) x y (infinity-some w) (remains (format p e) (infinity-some w) x y has) (ltb-false (magnitude (format p e) x) (magnitude (format p e) y) l)
 
--- ---- by parts: unpacked operands, with the exponents a and b
-module _ {p e : ℕ} (w : Fits p e) (x y : ℕ) (r : Reduces (format p e) x y) {a b : ℤ} (i : a ≡ exponent (format p e) x) (j : b ≡ exponent (format p e) y) where
+-- ---- both operands as unpacked
+module _ {p e : ℕ} (w : Fits p e) (x y : ℕ) (r : Reduces (format p e) x y) {sx sy : ℕ} {a b : ℤ} {m n : Bool}
+    (i : Unpacked (format p e) x sx a m) (j : Unpacked (format p e) y sy b n) where
   abbrev f : Format
   f = format p e
 
-  exponent-x : (up a ≡ up (pos (unitsExp f x) -ℤ pos (low f))) × (dn a ≡ dn (pos (unitsExp f x) -ℤ pos (low f)))
-  exponent-x = eqZ-fact (i ∙ sym (exponent-is f x))
-
-  exponent-y : (up b ≡ up (pos (unitsExp f y) -ℤ pos (low f))) × (dn b ≡ dn (pos (unitsExp f y) -ℤ pos (low f)))
-  exponent-y = eqZ-fact (j ∙ sym (exponent-is f y))
-
-  pub not-negative : T (leZ b a)
-  not-negative =
-      leZ-of b a (omega (arith, exponent-x, exponent-y, subZ (pos (unitsExp f x)) (pos (low f)), subZ (pos (unitsExp f y)) (pos (low f)), r .ordered))
-
-  -- and significands s and t
-  pub parts-are : {s t k : ℕ} → s ≡ significand f x → t ≡ significand f y → pos k ≡ a -ℤ b
-      → ((s ≡ significand f x) × (k ≡ unitsExp f x - unitsExp f y) × (t ≡ significand f y)) × (s < 2 ^ (p + 1)) × (0 < t) × (t < 2 ^ (p + 1)) × (k < 2 ^ 16)
-  parts-are {s} {t} {k} g h m =
-      let shift : k ≡ unitsExp f x - unitsExp f y =
+  -- the exponents are as far apart as the fields less 1
+  apart : up a + dn b + unitsExp f y ≡ up b + dn a + unitsExp f x
+  apart =
       omega
-      (arith, eqZ-fact m, subZ a b, oneZ (a -ℤ b), exponent-x, exponent-y, subZ (pos (unitsExp f x)) (pos (low f)), subZ (pos (unitsExp f y)) (pos (low f)), r .ordered) in (
-        (g, shift, h),
-        omega (arith, significand-small f x, pow-add 2 p 1),
-        omega (arith, r .some),
-        omega (arith, significand-small f y, pow-add 2 p 1),
+      (arith, eqZ-fact (i .1 ∙ sym (exponent-is f x)), eqZ-fact (j .1 ∙ sym (exponent-is f y)), subZ (pos (unitsExp f x)) (pos (low f)), subZ (pos (unitsExp f y)) (pos (low f)))
+
+  pub exponents-ready : (mag a < 2 ^ 17) × (mag b < 2 ^ 17) × T (leZ b a)
+  exponents-ready = (i .3 .small, j .3 .small, leZ-of b a (omega (arith, apart, r .ordered)))
+
+  pub parts-are : {s t k : ℕ} → (s ≡ sx) × (pos k ≡ a -ℤ b) × (t ≡ sy)
+      → ((s ≡ significand f x) × (k ≡ unitsExp f x - unitsExp f y) × (t ≡ significand f y)) × (s < 2 ^ (p + 1)) × (0 < t) × (t < 2 ^ (p + 1)) × (k < 2 ^ 16)
+  parts-are {s} {t} {k} (g, d, h) =
+      let shift : k ≡ unitsExp f x - unitsExp f y = omega (arith, eqZ-fact d, subZ a b, apart, r .ordered) in (
+        (g ∙ i .0, shift, h ∙ j .0),
+        omega (arith, g ∙ i .0, significand-small f x, pow-add 2 p 1),
+        omega (arith, h ∙ j .0, r .some),
+        omega (arith, h ∙ j .0, significand-small f y, pow-add 2 p 1),
         omega (arith, field-in-word w x),
       )
 

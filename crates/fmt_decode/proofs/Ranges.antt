@@ -1,6 +1,6 @@
 -- How far exponents go, as the fields give them and normalised: no step of the code wraps. Assumes nothing.
 use Prim.Native.Nat.{ℕ, _+_, _-_, _^_, _≤_, _<_}
-use mathlib.Core.Path.{_≡_, sym, subst}
+use mathlib.Core.Path.{_≡_, sym, _∙_}
 use native.Mathlib.Omega.{arith}
 use lib.IntN.{ℤ, pos, negℤ, _+ℤ_}
 use lib.Pow.{pow-mono, pow-pos}
@@ -52,22 +52,16 @@ module _ {p e : ℕ} (w : Fits p e) where
   range-fits z r = let m = magZ-fact z (r .small) in sfitsZ w32 z (omega arith) (omega arith)
 
   module _ (x : ℕ) where
-    pub exponent-in-range : InRange f (exponent f x)
-    exponent-in-range =
-        let z = exponent f x in
+    pub exponent-in-range : {z : ℤ} → z ≡ exponent f x → InRange f z
+    exponent-in-range {z} i =
         let s = subZ (pos (unitsExp f x)) (pos (low f)) in
-        let e = eqZ-fact (exponent-is f x) in
+        let e = eqZ-fact (i ∙ sym (exponent-is f x)) in
         in-range z (omega (arith, field-in-word w x, oneZ z)) (omega (arith, oneZ z))
 
-    -- however computed
-    pub exponent-goes : {z : ℤ} → z ≡ exponent f x → InRange f z
-    exponent-goes e = subst (InRange f) (sym e) exponent-in-range
-
-    pub exp-in-range : 0 < magnitude f x → InRange f (expOf f x)
-    exp-in-range some =
+    pub exp-in-range : 0 < magnitude f x → {z : ℤ} → z ≡ expOf f x → InRange f z
+    exp-in-range some {z} i =
         let (at, n) = normal-is f (w .fair) x some in
-        let z = expOf f x in
         let s = subZ (pos at) (pos (p + low f)) in
-        let e = eqZ-fact (n .exponent) in
+        let e = eqZ-fact (i ∙ n .exponent) in
         let b = n .below-all in
         in-range z (omega (arith, fields-small w, oneZ z, w .word, pow-pos p)) (omega (arith, oneZ z))

@@ -76,16 +76,16 @@ module _ (f : Format) (x : ℕ) where
       let n : z ≤ 0 = by-contra z 0 (λ k. omega (arith, zeros-fill l .most, two-pow-succ (f .frac), times-le (significand f x) (pow-mono {i = 1} {j = z} k))) in
       omega arith
 
-  pub filled-as-given : 0 < magnitude f x → 2 ^ f .frac ≤ significand f x → (significand f x ≡ sigOf f x) × (exponent f x ≡ expOf f x)
-  filled-as-given l h =
+  pub filled-stays : 0 < magnitude f x → 2 ^ f .frac ≤ significand f x → (significand f x ≡ sigOf f x) × (exponent f x ≡ expOf f x)
+  filled-stays l h =
       let z = zeros-none l h in
       let e = exponent f x in (
         omega arith ∙ ap (λ k. significand f x * 2 ^ k) (sym z) ∙ sig-shifted,
         eqZ e (e -ℤ pos 0) (omega (arith, subZ e (pos 0))) ∙ ap (λ k. e -ℤ pos k) (sym z) ∙ exp-lowered,
       )
 
-  pub normal-as-given : 0 < magnitude f x → 0 < field f x → (significand f x ≡ sigOf f x) × (exponent f x ≡ expOf f x)
-  normal-as-given l h = filled-as-given l (omega (arith, significand-normal h))
+  pub normal-stays : 0 < magnitude f x → 0 < field f x → (significand f x ≡ sigOf f x) × (exponent f x ≡ expOf f x)
+  normal-stays l h = filled-stays l (omega (arith, significand-normal h))
 
 -- ---- by the number: the leading bit of x has the exponent `at`, counted in smallest units
 pub record Normal (f : Format) (x at : ℕ) : Type 0 where

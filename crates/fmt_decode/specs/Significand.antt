@@ -9,7 +9,7 @@ use lib.Signed.{leZ, mag}
 use Rattle.ieee.specs.Format.{Format, low}
 use Rattle.ieee.specs.Pattern.{minus, field, fraction}
 
--- ---- as the fields give them
+-- ---- as the fields give them: the c and q of IEEE 754-2019, clause 3.3
 -- by the exponent field and the fraction t, where h is 2 ^ frac: the implicit bit of a normal number, and none of a subnormal one
 abbrev pub significandBy : ℕ → ℕ → ℕ → ℕ
 significandBy h zero t = t

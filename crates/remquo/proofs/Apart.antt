@@ -20,21 +20,20 @@ use Rattle.ieee.proofs.Remquos.{remquo-rows}
 use Rattle.fmt_fields.specs.Width.{format, Fits}
 use Rattle.fmt_exponents.specs.Field.{above}
 use Rattle.remquo.specs.Nearest.{goesUp, counted, leftOver}
-use Rattle.fmt_decode.specs.Significand.{sigOf, expOf, unitsAt, InRange}
+use Rattle.fmt_decode.specs.Significand.{Normalised, unitsAt, InRange}
 use Rattle.fmt_decode.proofs.Significands.{normal-is}
-use Rattle.fmt_decode.proofs.Ranges.{exp-in-range}
 use Rattle.remquo.proofs.Nearest.{value-by-division, quotient-by-division, left-below-infinity}
 
 -- two finite nonzero numbers, unpacked
-pub record Operands (p e x y sx sy : ℕ) (ex ey : ℤ) : Type 0 where
+pub record Operands (p e x y sx sy : ℕ) (ex ey : ℤ) (nx ny : Bool) : Type 0 where
   pub wide : Fits p e
   pub pattern : Pattern (format p e) x
   pub some-x : 0 < magnitude (format p e) x
   pub below-x : magnitude (format p e) x < inf (format p e)
   pub some-y : 0 < magnitude (format p e) y
   pub below-y : magnitude (format p e) y < inf (format p e)
-  pub taken-x : (sx ≡ sigOf (format p e) x) × (ex ≡ expOf (format p e) x)
-  pub taken-y : (sy ≡ sigOf (format p e) y) × (ey ≡ expOf (format p e) y)
+  pub taken-x : Normalised (format p e) x sx ex nx
+  pub taken-y : Normalised (format p e) y sy ey ny
 
 -- what the end of a division requires and gives
 pub record Settles (p e x y rem div quo : ℕ) (exp : ℤ) : Type 0 where
@@ -62,8 +61,8 @@ record Placed (f : Format) (x s at : ℕ) (exp : ℤ) : Type 0 where
   counts : units f (magnitude f x) * 2 ^ f .frac ≡ s * 2 ^ at
   range : InRange f exp
 
-at-exponent : {p e : ℕ} → Fits p e → (x s : ℕ) (exp : ℤ) → 0 < magnitude (format p e) x → (s ≡ sigOf (format p e) x) × (exp ≡ expOf (format p e) x) → (at : ℕ) × Placed (format p e) x s at exp
-at-exponent {p} {e} w x s exp l (i, j) =
+at-exponent : {p e : ℕ} → Fits p e → (x s : ℕ) (exp : ℤ) (neg : Bool) → 0 < magnitude (format p e) x → Normalised (format p e) x s exp neg → (at : ℕ) × Placed (format p e) x s at exp
+at-exponent {p} {e} w x s exp neg l (i, j, k, g) =
     let f = format p e in
     let (at, n) = normal-is f (w .fair) x l in (
       at,
@@ -72,7 +71,7 @@ at-exponent {p} {e} w x s exp l (i, j) =
         most = omega (arith, i, n .most);
         exponent = j ∙ n .exponent;
         counts = n .counts ∙ ap (λ t. t * 2 ^ at) (sym i);
-        range = subst (InRange f) (sym j) (exp-in-range w x l);
+        range = g;
       },
     )
 
@@ -84,7 +83,7 @@ above-up (pos n) = refl
 above-up (negsuc n) = refl
 
 -- ---- both
-module _ {p e x y sx sy : ℕ} {ex ey : ℤ} (o : Operands p e x y sx sy ex ey) where
+module _ {p e x y sx sy : ℕ} {ex ey : ℤ} {nx ny : Bool} (o : Operands p e x y sx sy ex ey nx ny) where
   abbrev f : Format
   f = format p e
 
@@ -96,10 +95,10 @@ module _ {p e x y sx sy : ℕ} {ex ey : ℤ} (o : Operands p e x y sx sy ex ey) 
   v = units f (magnitude f y) - 1
 
   a : (at : ℕ) × Placed f x sx at ex
-  a = at-exponent (o .wide) x sx ex (o .some-x) (o .taken-x)
+  a = at-exponent (o .wide) x sx ex nx (o .some-x) (o .taken-x)
 
   b : (at : ℕ) × Placed f y sy at ey
-  b = at-exponent (o .wide) y sy ey (o .some-y) (o .taken-y)
+  b = at-exponent (o .wide) y sy ey ny (o .some-y) (o .taken-y)
 
   units-y : suc v ≡ units f (magnitude f y)
   units-y = omega (arith, units-some f (magnitude f y) (o .some-y))

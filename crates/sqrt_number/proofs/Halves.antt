@@ -27,7 +27,7 @@ module _ {p e : ℕ} (w : Fits p e) (x : ℕ) (a : Above (format p e) x) (sig up
   pub up-small : up < 2 ^ 18
   up-small =
       let z = expOf (format p e) x in
-      omega (arith, eqZ-fact (h .up-is), addZ z (pos (lift (format p e))), range-bounds w z (exp-in-range w x (a .some)), fields-small w, w .word)
+      omega (arith, eqZ-fact (h .up-is), addZ z (pos (lift (format p e))), range-bounds w z (exp-in-range w x (a .some) refl), fields-small w, w .word)
 
   pub led : Leads p sig
   led = leads w x sig (a .some) (h .sig-is)

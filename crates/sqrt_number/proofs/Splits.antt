@@ -13,7 +13,7 @@ use Rattle.ieee.specs.Format.{Format, Fair}
 use Rattle.ieee.specs.Pattern.{magnitude, field}
 use Rattle.fmt_fields.specs.Width.{format, Fits}
 use Rattle.fmt_decode.specs.Significand.{significand, exponent, sigOf, expOf}
-use Rattle.fmt_decode.proofs.Significands.{normal-is, normal-as-given}
+use Rattle.fmt_decode.proofs.Significands.{normal-is, normal-stays}
 use Rattle.sqrt_digits.specs.Floor.{pairs}
 use Rattle.sqrt_table.specs.Table.{Serves}
 use Rattle.sqrt_table.proofs.Rule.{serves-low, serves-high}
@@ -42,7 +42,7 @@ module _ (f : Format) (x : ℕ) {sig up : ℕ} {exp : ℤ} (u : pos up ≡ exp +
   parts s e = record { sig-is = s; up-is = u ∙ ap (λ z. z +ℤ pos (lift f)) e }
 
   pub normal-parts : 0 < magnitude f x → 0 < field f x → sig ≡ significand f x → exp ≡ exponent f x → Parts f x sig up
-  normal-parts some normal s e = let (i, j) = normal-as-given f x some normal in parts (s ∙ i) (e ∙ j)
+  normal-parts some normal s e = let (i, j) = normal-stays f x some normal in parts (s ∙ i) (e ∙ j)
 
 module _ (p sig up : ℕ) (l : Leads p sig) where
   abbrev odd : ℕ

@@ -1,9 +1,8 @@
 -- Where y is normal so is x, since their fields are in order; either way both are unpacked as the definition says (Fmods). Assumes nothing.
-use mathlib.Core.Path.{_∙_}
 use native.Mathlib.Omega.{arith}
 use borrow.Author.Needs.{needs}
 use Rattle.fmt_fields.specs.Width.{format}
-use Rattle.fmod.proofs.Fmods.{Reduces, reduces, not-negative, parts-are}
+use Rattle.fmod.proofs.Fmods.{Reduces, reduces, exponents-ready, parts-are}
 use Rattle.fmod.proofs.fmod.division_of.Statement.{statement}
 use Rattle.fmod.proofs.fmod.division_of.Tie as tie
 
@@ -23,18 +22,13 @@ unpack-normal-requires-2 c κs = let o = c .before in (o .before .before .pre .0
 as-division-requires : tie.Need-as-division-requires
 as-division-requires c κs =
     let s = c .before .before .before .before in
-    let a = c .before .unpack-normal .ensures in
-    let b = c .unpack-normal2 .ensures in
-    (a .3 .small, b .3 .small, not-negative (s .pre .0) (s .args .x) (s .args .y) (reduced s) (a .1) (b .1))
+    exponents-ready (s .pre .0) (s .args .x) (s .args .y) (reduced s) (c .before .unpack-normal .ensures) (c .unpack-normal2 .ensures)
 
 returns : tie.Need-returns
 returns c =
     let o = c .before in
     let s = o .before .before .before .before in
-    let a = o .before .unpack-normal .ensures in
-    let b = o .unpack-normal2 .ensures in
-    let d = c .as-division .ensures in
-    parts-are (s .pre .0) (s .args .x) (s .args .y) (reduced s) (a .1) (b .1) (d .0 ∙ a .0) (d .2 ∙ b .0) (d .1)
+    parts-are (s .pre .0) (s .args .x) (s .args .y) (reduced s) (o .before .unpack-normal .ensures) (o .unpack-normal2 .ensures) (c .as-division .ensures)
 
 -- any two
 unpack-requires : tie.Need-unpack-requires
@@ -46,18 +40,13 @@ unpack-requires-2 c κs = search needs
 as-division-requires-2 : tie.Need-as-division-requires-2
 as-division-requires-2 c κs =
     let s = c .before .before .before .before in
-    let a = c .before .unpack .ensures in
-    let b = c .unpack2 .ensures in
-    (a .3 .small, b .3 .small, not-negative (s .pre .0) (s .args .x) (s .args .y) (reduced s) (a .1) (b .1))
+    exponents-ready (s .pre .0) (s .args .x) (s .args .y) (reduced s) (c .before .unpack .ensures) (c .unpack2 .ensures)
 
 returns-2 : tie.Need-returns-2
 returns-2 c =
     let o = c .before in
     let s = o .before .before .before .before in
-    let a = o .before .unpack .ensures in
-    let b = o .unpack2 .ensures in
-    let d = c .as-division2 .ensures in
-    parts-are (s .pre .0) (s .args .x) (s .args .y) (reduced s) (a .1) (b .1) (d .0 ∙ a .0) (d .2 ∙ b .0) (d .1)
+    parts-are (s .pre .0) (s .args .x) (s .args .y) (reduced s) (o .before .unpack .ensures) (o .unpack2 .ensures) (c .as-division2 .ensures)
 
 pub division-of-spec : {M : Type 1} → statement M
 division-of-spec =

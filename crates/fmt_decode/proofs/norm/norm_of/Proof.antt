@@ -1,6 +1,6 @@
 -- A normal number has no leading zeros, and a subnormal one is shifted left by its own (Significands); no step wraps (Ranges). Assumes nothing.
 use Prim.Native.Nat.{ℕ, suc, _*_, _^_, _<_}
-use mathlib.Core.Path.{_≡_, sym, ap, ap₂, _∙_, subst}
+use mathlib.Core.Path.{_≡_, ap, ap₂, _∙_}
 use native.Mathlib.Nat.{mod-eq-of-lt}
 use native.Mathlib.Omega.{arith}
 use borrow.Author.Needs.{needs}
@@ -14,7 +14,7 @@ use Rattle.algebra.proofs.Leading.{Fills}
 use Rattle.ieee.specs.Format.{Format}
 use Rattle.fmt_fields.specs.Width.{format}
 use Rattle.fmt_decode.specs.Significand.{significand, zerosOf, sigOf, expOf, InRange}
-use Rattle.fmt_decode.proofs.Significands.{significand-some, sig-shifted, exp-lowered, zeros-fill, filled-as-given}
+use Rattle.fmt_decode.proofs.Significands.{significand-some, sig-shifted, exp-lowered, zeros-fill, filled-stays}
 use Rattle.fmt_decode.proofs.Ranges.{exp-in-range, range-fits}
 use Rattle.fmt_decode.proofs.norm.norm_of.Statement.{statement}
 use Rattle.fmt_decode.proofs.norm.norm_of.Tie as tie
@@ -59,7 +59,7 @@ module _ (c : tie.After-zeros-before) where
   exp-is = ap₂ (λ z k. z -ℤ pos k) (n .unpack .ensures .1) zeros-are ∙ exp-lowered (fmt at) (at .args .x)
 
   exp-goes : InRange (fmt at) (n .unpack .result .exp -ℤ pos zeros)
-  exp-goes = subst (InRange (fmt at)) (sym exp-is) (exp-in-range (at .pre .0) (at .args .x) (at .pre .1))
+  exp-goes = exp-in-range (at .pre .0) (at .args .x) (at .pre .1) exp-is
 
   less-fits : SFits w32 (n .unpack .result .exp -ℤ pos zeros)
   less-fits = range-fits (at .pre .0) (n .unpack .result .exp -ℤ pos zeros) exp-goes
@@ -69,7 +69,7 @@ returns c =
     let u = c .before .before .before in
     let s = u .before in
     let r = u .unpack .ensures in
-    let (i, j) = filled-as-given (fmt s) (s .args .x) (s .pre .1) (omega (arith, r .0, c .before .before .pow .ensures, c .if1 .taken)) in
+    let (i, j) = filled-stays (fmt s) (s .args .x) (s .pre .1) (omega (arith, r .0, c .before .before .pow .ensures, c .if1 .taken)) in
     (r .0 ∙ i, r .1 ∙ j, r .2, r .3)
 
 returns-2 : tie.Need-returns-2

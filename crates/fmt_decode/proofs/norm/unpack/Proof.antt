@@ -9,7 +9,7 @@ use Rattle.ieee.specs.Format.{Format}
 use Rattle.ieee.specs.Pattern.{field}
 use Rattle.fmt_fields.specs.Width.{format}
 use Rattle.fmt_decode.proofs.Significands.{significand-subnormal, exponent-from}
-use Rattle.fmt_decode.proofs.Ranges.{exponent-goes}
+use Rattle.fmt_decode.proofs.Ranges.{exponent-in-range}
 use Rattle.fmt_decode.proofs.norm.unpack.Statement.{statement}
 use Rattle.fmt_decode.proofs.norm.unpack.Tie as tie
 
@@ -36,7 +36,7 @@ returns-2 c =
       t .fraction-field .ensures ∙ significand-subnormal (fmt s) (s .args .x) z,
       simp (toZ-ofZ, back o) e,
       c .is-negative .ensures,
-      simp (toZ-ofZ, back o) (exponent-goes (s .pre) (s .args .x) e),
+      simp (toZ-ofZ, back o) (exponent-in-range (s .pre) (s .args .x) e),
     )
 
 exponent-field-requires : tie.Need-exponent-field-requires

@@ -11,7 +11,7 @@ use Rattle.fmt_fields.specs.Width.{format}
 use Rattle.fmt_fields.proofs.Decoded.{field-in-word, significand-room}
 use Rattle.fmt_decode.specs.Significand.{unitsExp}
 use Rattle.fmt_decode.proofs.Significands.{significand-normal, exponent-from}
-use Rattle.fmt_decode.proofs.Ranges.{exponent-goes}
+use Rattle.fmt_decode.proofs.Ranges.{exponent-in-range}
 use Rattle.fmt_decode.proofs.norm.unpack_normal.Statement.{statement}
 use Rattle.fmt_decode.proofs.norm.unpack_normal.Tie as tie
 
@@ -34,7 +34,7 @@ returns c =
       ap₂ _+_ (g .before .pow .ensures) (g .fraction-field .ensures) ∙ significand-normal (fmt s) (s .args .x) (s .pre .1),
       simp (toZ-ofZ, back o) e,
       c .is-negative .ensures,
-      simp (toZ-ofZ, back o) (exponent-goes (s .pre .0) (s .args .x) e),
+      simp (toZ-ofZ, back o) (exponent-in-range (s .pre .0) (s .args .x) e),
     )
 
 exponent-field-requires : tie.Need-exponent-field-requires

@@ -11,7 +11,7 @@ use Rattle.remquo.proofs.remquo.remquo_numbers.Statement.{statement}
 use Rattle.remquo.proofs.remquo.remquo_numbers.Tie as tie
 
 operands : (c : tie.After-norm-of2) → let s = c .before .before in let r = c .before .norm-of .result in let t = c .norm-of2 .result in
-    Operands (s .args .frac) (s .args .expo) (s .args .x) (s .args .y) (r .sig) (t .sig) (r .exp) (t .exp)
+    Operands (s .args .frac) (s .args .expo) (s .args .x) (s .args .y) (r .sig) (t .sig) (r .exp) (t .exp) (r .neg) (t .neg)
 operands c =
     let s = c .before .before in
     record {
@@ -21,8 +21,8 @@ operands c =
       below-x = s .pre .3;
       some-y = s .pre .4;
       below-y = s .pre .5;
-      taken-x = let r = c .before .norm-of .ensures in (r .0, r .1);
-      taken-y = let r = c .norm-of2 .ensures in (r .0, r .1);
+      taken-x = c .before .norm-of .ensures;
+      taken-y = c .norm-of2 .ensures;
     }
 
 fits : (c : tie.After-norm-of2) → SFits w32 (c .before .norm-of .result .exp) × SFits w32 (c .norm-of2 .result .exp)
