@@ -1,18 +1,21 @@
 /* Paskerotim: sqrt, fma, fmod, remquo, scalbn, floor and trunc on bit patterns, a call on lists of patterns, and a reduction
    of whole numbers, all computed in whole-number arithmetic.
 
-   A pattern is the bits of an IEEE 754 number as an unsigned integer: binary64 in a uint64_t, binary32 in a uint32_t. memcpy
-   takes a double or a float there and back. A name ends in the width, and then in what is given if that is not the value:
-   pk_sqrt64, pk_sqrt64_status. What has two parts, as a value and its status, is two functions of the same operands.
+   A pattern is the bits of an IEEE 754 number as an unsigned integer: binary64 in a uint64_t, binary32 in a uint32_t. A name
+   that ends in a width takes patterns: pk_sqrt64. ISO C's own names take numbers: pk_sqrt a double, pk_sqrtf a float. A name
+   that ends in _flags gives the same answer with its flags. One call answers one question: what has a second part, as flags
+   or a quotient, puts it where the last argument points to.
 
-   Every function is proved to give the answer described here, for every input. docs/TRUST.md says what that rests on.
+   Every function on patterns is proved to give the answer described here, for every input. docs/TRUST.md says what that
+   rests on.
    - Every pattern is answered: every NaN, infinity, zero and subnormal number too. Only the reduction and the list call
      refuse, by a number.
-   - An answer depends on the arguments alone. The list call writes its output besides, and nothing else is written.
-   - No call can fail, and none asks anything of its caller, but for the pointers of the list call.
+   - An answer depends on the arguments alone. What a pointer argument points to is written besides, and nothing else is.
+   - No call can fail, and none asks anything of its caller but for its pointers: each must be valid and aligned, and what it
+     points to must overlap nothing else that the call reads or writes.
 
-   Tested and not proved: a call needs no rounding mode and sets none, raises no floating-point flag, keeps no state,
-   allocates nothing, and may be made from any thread at any time. The answers are the same on x86-64 and on Arm.
+   Tested and not proved: a call needs no rounding mode and sets none, raises no floating-point flag of the processor, keeps
+   no state, allocates nothing, and may be made from any thread at any time. The answers are the same on x86-64 and on Arm.
 
    "Rounded once" is rounded to nearest: no number of the format is nearer to the exact value, and of two that are equally
    near the answer is the one whose last bit is 0. From halfway between the largest finite number and the power of two
@@ -21,13 +24,18 @@
 
    The canonical NaN is PK_NAN64 or PK_NAN32. It is the only NaN that is ever answered.
 
+   An argument of the wrong kind, which C would convert into another value without a word, does not compile: pk_sqrt64(2.0),
+   pk_sqrt(0x4000000000000000). The end of this file says what is refused, and how.
+
    For C99 and C++. Link libpaskerotim.a; nothing else is needed. */
 
 #ifndef PASKEROTIM_H
 #define PASKEROTIM_H
 
+#include <float.h>
 #include <stddef.h>
 #include <stdint.h>
+#include <string.h>
 
 #ifdef __cplusplus
 extern "C" {
@@ -37,15 +45,24 @@ extern "C" {
 #define PK_NAN64 UINT64_C(0x7ff8000000000000)
 #define PK_NAN32 UINT32_C(0x7fc00000)
 
-/* What the functions give whose names end in _status, and no other number. */
-enum pk_status {
+/* The exceptions of IEEE 754, clause 7, as bits. A function whose name ends in _flags overwrites *flags with those that this
+   call raises, and PK_OK for none; a caller that gathers those of several calls joins them with |.
+   PK_INVALID comes alone, and the answer is then the canonical NaN. A signalling NaN raises it; a quiet NaN by itself raises
+   nothing. PK_INEXACT is raised where the answer is not the exact value, PK_OVERFLOW where a finite value rounds to infinity,
+   and so never without PK_INEXACT. PK_UNDERFLOW is raised where the answer is inexact and the value is tiny: rounded with no
+   bound on the exponent, it would not be 0 and lie below the least normal number in magnitude (tininess after rounding). No
+   function here raises PK_DIVBYZERO. */
+enum pk_flags {
     PK_OK = 0,
     PK_INVALID = 1,
+    PK_DIVBYZERO = 4,
+    PK_OVERFLOW = 8,
+    PK_UNDERFLOW = 16,
     PK_INEXACT = 32
 };
 
-/* What pk_list64 gives (0 to 3), and the functions whose names end in _refusal (0, 4 and 5). The reasons are looked at in
-   the order of their numbers: the first that holds is given, and none is given otherwise. */
+/* What pk_list64 gives (0 to 3), and the reduction (0, 4 and 5). The reasons are looked at in the order of their numbers: the
+   first that holds is given, and none is given otherwise. */
 enum pk_refusal {
     PK_DONE = 0,              /* nothing is refused */
     PK_UNKNOWN_OPERATION = 1, /* list: the operation is none of enum pk_list_operation */
@@ -68,44 +85,55 @@ enum pk_list_operation {
 #define PK_DIVISOR_LIMIT64 UINT64_C(0x3fffffffffffffff) /* 2^62 - 1 */
 #define PK_DIVISOR_LIMIT32 UINT32_C(0x3fffffff)         /* 2^30 - 1 */
 
+/* ---- Functions on patterns */
+
 /* sqrt: the root of x, rounded once.
    Either zero and +infinity are returned as they are. A NaN, and every x below zero (-0 is not, -infinity is), gives the
-   canonical NaN. */
+   canonical NaN.
+   Flags: PK_INVALID for a signalling NaN and for every x below zero; PK_INEXACT where the root is not exact. No other. */
 uint64_t pk_sqrt64(uint64_t x);
 uint32_t pk_sqrt32(uint32_t x);
-
-/* Its status: PK_INVALID for a NaN, quiet or signalling, and for every x below zero; PK_OK for all else, whether the root
-   is exact or not. */
-uint32_t pk_sqrt64_status(uint64_t x);
-uint32_t pk_sqrt32_status(uint32_t x);
+uint64_t pk_sqrt64_flags(uint64_t x, uint32_t *flags);
+uint32_t pk_sqrt32_flags(uint32_t x, uint32_t *flags);
 
 /* floor: the greatest whole number that is not above x, exactly.
    Zeros of either sign and infinities are returned as they are. A NaN gives the canonical NaN. Between 0 and 1 the answer
-   is +0, between -1 and 0 it is -1. */
+   is +0, between -1 and 0 it is -1.
+   Flags: PK_INVALID for a signalling NaN; PK_INEXACT exactly where x is finite and the answer is another pattern, so for
+   every number that is not whole. No other. */
 uint64_t pk_floor64(uint64_t x);
 uint32_t pk_floor32(uint32_t x);
-
-/* Its status: PK_INEXACT exactly where x is finite and the answer is another pattern, so for every number that is not
-   whole; PK_OK for all else, a NaN too. */
-uint32_t pk_floor64_status(uint64_t x);
-uint32_t pk_floor32_status(uint32_t x);
+uint64_t pk_floor64_flags(uint64_t x, uint32_t *flags);
+uint32_t pk_floor32_flags(uint32_t x, uint32_t *flags);
 
 /* trunc: x without its fraction, exactly, with the sign of x.
    Zeros of either sign and infinities are returned as they are. A NaN gives the canonical NaN. Between -1 and 0 the answer
-   is -0. */
+   is -0.
+   Flags: by the rule of floor's. */
 uint64_t pk_trunc64(uint64_t x);
 uint32_t pk_trunc32(uint32_t x);
-
-/* Its status, by the rule of floor's: PK_INEXACT exactly where x is finite and the answer is another pattern. */
-uint32_t pk_trunc64_status(uint64_t x);
-uint32_t pk_trunc32_status(uint32_t x);
+uint64_t pk_trunc64_flags(uint64_t x, uint32_t *flags);
+uint32_t pk_trunc32_flags(uint32_t x, uint32_t *flags);
 
 /* fma: x times y plus z, rounded once.
    The canonical NaN if any operand is a NaN, if a zero is multiplied by an infinity, or if an infinite product meets an
    infinite z of the other sign. Otherwise an infinite product, or else an infinite z, is the answer. An exact sum of zero
-   is +0, except where product and z are zeros of one sign: then it is that zero. */
+   is +0, except where product and z are zeros of one sign: then it is that zero.
+   Flags: PK_INVALID if any operand is a signalling NaN, if a zero is multiplied by an infinity, also where z is a quiet NaN,
+   or if an infinite product meets an infinite z of the other sign. For finite operands PK_INEXACT, PK_OVERFLOW and
+   PK_UNDERFLOW as the sum is rounded. */
 uint64_t pk_fma64(uint64_t x, uint64_t y, uint64_t z);
 uint32_t pk_fma32(uint32_t x, uint32_t y, uint32_t z);
+uint64_t pk_fma64_flags(uint64_t x, uint64_t y, uint64_t z, uint32_t *flags);
+uint32_t pk_fma32_flags(uint32_t x, uint32_t y, uint32_t z, uint32_t *flags);
+
+/* scalbn: x times 2^n, for every n, rounded once.
+   Zeros of either sign and infinities are returned as they are. A NaN gives the canonical NaN.
+   Flags: PK_INVALID for a signalling NaN. For a finite x PK_INEXACT, PK_OVERFLOW and PK_UNDERFLOW as x times 2^n is rounded. */
+uint64_t pk_scalbn64(uint64_t x, int32_t n);
+uint32_t pk_scalbn32(uint32_t x, int32_t n);
+uint64_t pk_scalbn64_flags(uint64_t x, int32_t n, uint32_t *flags);
+uint32_t pk_scalbn32_flags(uint32_t x, int32_t n, uint32_t *flags);
 
 /* fmod: x minus trunc(x / y) times y, exactly, where x / y is the exact quotient. It has the sign of x, as a zero too.
    The canonical NaN if x is a NaN or infinite, or if y is a NaN or zero. Otherwise x itself where |x| < |y|, so for every
@@ -115,27 +143,17 @@ uint32_t pk_fmod32(uint32_t x, uint32_t y);
 
 /* remquo: x minus n times y, exactly, where n is the whole number nearest to the exact quotient x / y, of two that are
    equally near the even one. A zero has the sign of x. The canonical NaN where fmod gives it. A finite x by an infinite y
-   gives x itself. */
-uint64_t pk_remquo64(uint64_t x, uint64_t y);
+   gives x itself.
+   *quotient becomes the magnitude of n modulo 2^31, negated if the signs of x and y differ; 0 where the answer is the
+   canonical NaN, and where y is infinite. */
+uint64_t pk_remquo64(uint64_t x, uint64_t y, int32_t *quotient);
 
-/* Its quotient: the magnitude of n modulo 2^31, negated if the signs of x and y differ. 0 where the value is the canonical
-   NaN, and where y is infinite. */
-int32_t pk_remquo64_quotient(uint64_t x, uint64_t y);
-
-/* scalbn: x times 2^n, for every n, rounded once.
-   Zeros of either sign and infinities are returned as they are. A NaN gives the canonical NaN. */
-uint64_t pk_scalbn64(uint64_t x, int32_t n);
-uint32_t pk_scalbn32(uint32_t x, int32_t n);
-
-/* The reduction: (x times 2^e) mod y, of plain whole numbers and not of patterns; 0 where it is refused. 0 may be the
-   remainder too: pk_reduce64_refusal (pk_reduce32_refusal) tells which it is. */
-uint64_t pk_reduce64(uint64_t x, uint32_t e, uint64_t y);
-uint32_t pk_reduce32(uint32_t x, uint32_t e, uint32_t y);
-
-/* PK_DONE, or why it is refused: PK_OUT_OF_RANGE where y is above PK_DIVISOR_LIMIT64 (PK_DIVISOR_LIMIT32) or x is not below
-   2y, so always where y is zero; else PK_SHIFT_TOO_GREAT where e is above PK_SHIFT_LIMIT. */
-uint32_t pk_reduce64_refusal(uint64_t x, uint32_t e, uint64_t y);
-uint32_t pk_reduce32_refusal(uint32_t x, uint32_t e, uint32_t y);
+/* The reduction: *value becomes (x times 2^e) mod y, of plain whole numbers and not of patterns.
+   The answer is PK_DONE, or why it is refused: PK_OUT_OF_RANGE where y is above PK_DIVISOR_LIMIT64 (PK_DIVISOR_LIMIT32) or x
+   is not below 2y, so always where y is zero; else PK_SHIFT_TOO_GREAT where e is above PK_SHIFT_LIMIT. *value then becomes
+   0. */
+uint32_t pk_reduce64(uint64_t x, uint32_t e, uint64_t y, uint64_t *value);
+uint32_t pk_reduce32(uint32_t x, uint32_t e, uint32_t y, uint32_t *value);
 
 /* The list call: every place of ys becomes the operation op of the same place of xs, as pk_sqrt64, pk_floor64 or
    pk_trunc64 gives it. The answer is PK_DONE, or why it is refused: PK_UNKNOWN_OPERATION, PK_LIST_TOO_LONG or
@@ -148,6 +166,233 @@ uint32_t pk_list64(uint32_t op, const uint64_t *xs, size_t xs_len, uint64_t *ys,
 
 #ifdef __cplusplus
 }
+#endif
+
+/* ---- Functions on numbers
+
+   A double is binary64 here and a float binary32. */
+#if FLT_RADIX != 2 || DBL_MANT_DIG != 53 || DBL_MAX_EXP != 1024 || FLT_MANT_DIG != 24 || FLT_MAX_EXP != 128
+#error "paskerotim.h: double is not binary64, or float is not binary32"
+#endif
+typedef char pk_double_has_8_bytes[sizeof(double) == 8 ? 1 : -1];
+typedef char pk_float_has_4_bytes[sizeof(float) == 4 ? 1 : -1];
+
+/* The pattern of a number, and the number of a pattern: the same bits, copied. */
+static inline uint64_t pk_pattern64(double x) { uint64_t bits; memcpy(&bits, &x, sizeof bits); return bits; }
+static inline uint32_t pk_pattern32(float x) { uint32_t bits; memcpy(&bits, &x, sizeof bits); return bits; }
+static inline double pk_number64(uint64_t bits) { double x; memcpy(&x, &bits, sizeof x); return x; }
+static inline float pk_number32(uint32_t bits) { float x; memcpy(&x, &bits, sizeof x); return x; }
+
+/* Under ISO C's names and types: the functions on patterns between these two, and nothing else. They set no errno and raise
+   no floating-point flag of the processor, which the flags are not. */
+static inline double pk_sqrt(double x) { return pk_number64(pk_sqrt64(pk_pattern64(x))); }
+static inline float pk_sqrtf(float x) { return pk_number32(pk_sqrt32(pk_pattern32(x))); }
+static inline double pk_floor(double x) { return pk_number64(pk_floor64(pk_pattern64(x))); }
+static inline float pk_floorf(float x) { return pk_number32(pk_floor32(pk_pattern32(x))); }
+static inline double pk_trunc(double x) { return pk_number64(pk_trunc64(pk_pattern64(x))); }
+static inline float pk_truncf(float x) { return pk_number32(pk_trunc32(pk_pattern32(x))); }
+static inline double pk_fma(double x, double y, double z) {
+    return pk_number64(pk_fma64(pk_pattern64(x), pk_pattern64(y), pk_pattern64(z)));
+}
+static inline float pk_fmaf(float x, float y, float z) {
+    return pk_number32(pk_fma32(pk_pattern32(x), pk_pattern32(y), pk_pattern32(z)));
+}
+static inline double pk_scalbn(double x, int n) { return pk_number64(pk_scalbn64(pk_pattern64(x), n)); }
+static inline float pk_scalbnf(float x, int n) { return pk_number32(pk_scalbn32(pk_pattern32(x), n)); }
+static inline double pk_fmod(double x, double y) { return pk_number64(pk_fmod64(pk_pattern64(x), pk_pattern64(y))); }
+static inline float pk_fmodf(float x, float y) { return pk_number32(pk_fmod32(pk_pattern32(x), pk_pattern32(y))); }
+static inline double pk_remquo(double x, double y, int *quotient) {
+    int32_t n;
+    uint64_t value = pk_remquo64(pk_pattern64(x), pk_pattern64(y), &n);
+    *quotient = n;
+    return pk_number64(value);
+}
+
+/* The same with flags. */
+static inline double pk_sqrt_flags(double x, uint32_t *flags) { return pk_number64(pk_sqrt64_flags(pk_pattern64(x), flags)); }
+static inline float pk_sqrtf_flags(float x, uint32_t *flags) { return pk_number32(pk_sqrt32_flags(pk_pattern32(x), flags)); }
+static inline double pk_floor_flags(double x, uint32_t *flags) {
+    return pk_number64(pk_floor64_flags(pk_pattern64(x), flags));
+}
+static inline float pk_floorf_flags(float x, uint32_t *flags) {
+    return pk_number32(pk_floor32_flags(pk_pattern32(x), flags));
+}
+static inline double pk_trunc_flags(double x, uint32_t *flags) {
+    return pk_number64(pk_trunc64_flags(pk_pattern64(x), flags));
+}
+static inline float pk_truncf_flags(float x, uint32_t *flags) {
+    return pk_number32(pk_trunc32_flags(pk_pattern32(x), flags));
+}
+static inline double pk_fma_flags(double x, double y, double z, uint32_t *flags) {
+    return pk_number64(pk_fma64_flags(pk_pattern64(x), pk_pattern64(y), pk_pattern64(z), flags));
+}
+static inline float pk_fmaf_flags(float x, float y, float z, uint32_t *flags) {
+    return pk_number32(pk_fma32_flags(pk_pattern32(x), pk_pattern32(y), pk_pattern32(z), flags));
+}
+static inline double pk_scalbn_flags(double x, int n, uint32_t *flags) {
+    return pk_number64(pk_scalbn64_flags(pk_pattern64(x), n, flags));
+}
+static inline float pk_scalbnf_flags(float x, int n, uint32_t *flags) {
+    return pk_number32(pk_scalbn32_flags(pk_pattern32(x), n, flags));
+}
+
+/* ---- What does not compile
+
+   pk_error_takes_a_pattern_not_a_number: a floating argument where a pattern or another whole number is taken.
+   pk_error_takes_a_number_not_a_pattern: an integer where a number is taken; write pk_sqrt(2.0), not pk_sqrt(2).
+   pk_error_takes_nothing_wider: an integer of 64 bits where 32 are taken, a double where a float is, a long double. What is
+   meant is said by a conversion: pk_sqrt32((uint32_t)x).
+
+   Narrower integers, int constants as 0x40000000, and a float for a double are taken as ever. pk_list64 takes no pattern by
+   value and is left as it is.
+   In C++11 and later these are deleted functions. A function's name by itself is then one of several; as an argument to a
+   template it needs its type, or a lambda around it.
+   In C these are macros of the functions' names, which evaluate each argument once; (pk_sqrt64)(x) and &pk_sqrt64 are the
+   functions. The first check is in every C, the others from C11 on, with GCC and Clang. */
+#ifdef __cplusplus
+#if __cplusplus >= 201103L
+
+#include <type_traits>
+#include <utility>
+
+namespace pk_checks {
+
+/* A class counts as what unary plus makes of it, so one that converts to a double as a double. */
+template <typename A> auto counts(int) -> decltype(+std::declval<A>());
+template <typename A> A counts(long);
+
+/* What is wrong with an argument A for a parameter P: 0 nothing, else the number of an error below. */
+template <typename P, typename A, typename C = decltype(counts<A>(0))>
+struct fault : std::integral_constant<int, !std::is_arithmetic<P>::value || !std::is_arithmetic<C>::value ? 0
+    : std::is_integral<P>::value && !std::is_integral<C>::value ? 1
+    : !std::is_integral<P>::value && std::is_integral<C>::value ? 2
+    : sizeof(P) < sizeof(C) ? 3 : 0> {};
+
+/* What is wrong with the arguments of a call: the first fault. */
+template <typename F, typename... A> struct faults : std::integral_constant<int, 0> {};
+template <typename R, typename P, typename... Ps, typename A, typename... As>
+struct faults<R(P, Ps...), A, As...>
+    : std::integral_constant<int, fault<P, A>::value != 0 ? fault<P, A>::value : faults<R(Ps...), As...>::value> {};
+
+template <int number, typename F, typename... A>
+using where = typename std::enable_if<faults<F, A...>::value == number>::type;
+
+} // namespace pk_checks
+
+/* The error stands in the compiler's message as the name of the argument's type. */
+#define PK_REFUSED_(f, number, error) \
+    template <typename... error> pk_checks::where<number, pk_checks::f##_type, error...> f(error...) = delete
+#define PK_CHECKED_(f) \
+    namespace pk_checks { typedef decltype(f) f##_type; } \
+    PK_REFUSED_(f, 1, pk_error_takes_a_pattern_not_a_number); \
+    PK_REFUSED_(f, 2, pk_error_takes_a_number_not_a_pattern); \
+    PK_REFUSED_(f, 3, pk_error_takes_nothing_wider)
+PK_CHECKED_(pk_sqrt64); PK_CHECKED_(pk_sqrt32); PK_CHECKED_(pk_sqrt64_flags); PK_CHECKED_(pk_sqrt32_flags);
+PK_CHECKED_(pk_floor64); PK_CHECKED_(pk_floor32); PK_CHECKED_(pk_floor64_flags); PK_CHECKED_(pk_floor32_flags);
+PK_CHECKED_(pk_trunc64); PK_CHECKED_(pk_trunc32); PK_CHECKED_(pk_trunc64_flags); PK_CHECKED_(pk_trunc32_flags);
+PK_CHECKED_(pk_fma64); PK_CHECKED_(pk_fma32); PK_CHECKED_(pk_fma64_flags); PK_CHECKED_(pk_fma32_flags);
+PK_CHECKED_(pk_scalbn64); PK_CHECKED_(pk_scalbn32); PK_CHECKED_(pk_scalbn64_flags); PK_CHECKED_(pk_scalbn32_flags);
+PK_CHECKED_(pk_fmod64); PK_CHECKED_(pk_fmod32); PK_CHECKED_(pk_remquo64);
+PK_CHECKED_(pk_reduce64); PK_CHECKED_(pk_reduce32);
+PK_CHECKED_(pk_pattern64); PK_CHECKED_(pk_pattern32); PK_CHECKED_(pk_number64); PK_CHECKED_(pk_number32);
+PK_CHECKED_(pk_sqrt); PK_CHECKED_(pk_sqrtf); PK_CHECKED_(pk_sqrt_flags); PK_CHECKED_(pk_sqrtf_flags);
+PK_CHECKED_(pk_floor); PK_CHECKED_(pk_floorf); PK_CHECKED_(pk_floor_flags); PK_CHECKED_(pk_floorf_flags);
+PK_CHECKED_(pk_trunc); PK_CHECKED_(pk_truncf); PK_CHECKED_(pk_trunc_flags); PK_CHECKED_(pk_truncf_flags);
+PK_CHECKED_(pk_fma); PK_CHECKED_(pk_fmaf); PK_CHECKED_(pk_fma_flags); PK_CHECKED_(pk_fmaf_flags);
+PK_CHECKED_(pk_scalbn); PK_CHECKED_(pk_scalbnf); PK_CHECKED_(pk_scalbn_flags); PK_CHECKED_(pk_scalbnf_flags);
+PK_CHECKED_(pk_fmod); PK_CHECKED_(pk_fmodf); PK_CHECKED_(pk_remquo);
+#undef PK_CHECKED_
+#undef PK_REFUSED_
+
+#endif
+#else
+
+/* C has no | of a floating argument: the error names this macro, or its type. */
+typedef int pk_error_takes_a_pattern_not_a_number;
+#define PK_TAKES_A_PATTERN_NOT_A_NUMBER_(x) ((x) | (pk_error_takes_a_pattern_not_a_number)0)
+#define PK_64_(x) PK_TAKES_A_PATTERN_NOT_A_NUMBER_(x)
+
+#if defined __STDC_VERSION__ && __STDC_VERSION__ >= 201112L && defined __GNUC__
+/* The argument once, in a variable of its own name, whose type decides: the value, or a struct that no parameter takes. (With
+   the argument in the selection as well, calls within calls would double the text each time.) */
+struct pk_error_takes_a_pattern_not_a_number { char unused; };
+struct pk_error_takes_a_number_not_a_pattern { char unused; };
+struct pk_error_takes_nothing_wider { char unused; };
+#define PK_NO_NUMBER_ (struct pk_error_takes_a_pattern_not_a_number){0}
+#define PK_NO_PATTERN_ (struct pk_error_takes_a_number_not_a_pattern){0}
+#define PK_NO_WIDER_ (struct pk_error_takes_nothing_wider){0}
+#define PK_JOINED_(a, b) a##b
+#define PK_NAME_(n) PK_JOINED_(pk_argument_, n)
+#define PK_ONCE_(v, x, ...) __extension__({ __auto_type v = +(x); _Generic(v, __VA_ARGS__); })
+#define PK_WIDE_ long: PK_NO_WIDER_, unsigned long: PK_NO_WIDER_, long long: PK_NO_WIDER_, unsigned long long: PK_NO_WIDER_
+#define PK_INTEGER_(v, x, T) PK_ONCE_(v, x, int: (T)v, unsigned int: (T)v, PK_WIDE_, default: PK_NO_NUMBER_)
+#define PK_DOUBLES_(v, x) PK_ONCE_(v, x, float: (double)v, double: v, long double: PK_NO_WIDER_, default: PK_NO_PATTERN_)
+#define PK_FLOATS_(v, x) PK_ONCE_(v, x, float: v, double: PK_NO_WIDER_, long double: PK_NO_WIDER_, default: PK_NO_PATTERN_)
+#define PK_32_(x) PK_INTEGER_(PK_NAME_(__COUNTER__), x, uint32_t)
+#define PK_INT_(x) PK_INTEGER_(PK_NAME_(__COUNTER__), x, int32_t)
+#define PK_DOUBLE_(x) PK_DOUBLES_(PK_NAME_(__COUNTER__), x)
+#define PK_FLOAT_(x) PK_FLOATS_(PK_NAME_(__COUNTER__), x)
+#else
+#define PK_32_(x) PK_TAKES_A_PATTERN_NOT_A_NUMBER_(x)
+#define PK_INT_(x) PK_TAKES_A_PATTERN_NOT_A_NUMBER_(x)
+#define PK_DOUBLE_(x) (x)
+#define PK_FLOAT_(x) (x)
+#endif
+
+#define pk_sqrt64(x) pk_sqrt64(PK_64_(x))
+#define pk_sqrt32(x) pk_sqrt32(PK_32_(x))
+#define pk_sqrt64_flags(x, flags) pk_sqrt64_flags(PK_64_(x), flags)
+#define pk_sqrt32_flags(x, flags) pk_sqrt32_flags(PK_32_(x), flags)
+#define pk_floor64(x) pk_floor64(PK_64_(x))
+#define pk_floor32(x) pk_floor32(PK_32_(x))
+#define pk_floor64_flags(x, flags) pk_floor64_flags(PK_64_(x), flags)
+#define pk_floor32_flags(x, flags) pk_floor32_flags(PK_32_(x), flags)
+#define pk_trunc64(x) pk_trunc64(PK_64_(x))
+#define pk_trunc32(x) pk_trunc32(PK_32_(x))
+#define pk_trunc64_flags(x, flags) pk_trunc64_flags(PK_64_(x), flags)
+#define pk_trunc32_flags(x, flags) pk_trunc32_flags(PK_32_(x), flags)
+#define pk_fma64(x, y, z) pk_fma64(PK_64_(x), PK_64_(y), PK_64_(z))
+#define pk_fma32(x, y, z) pk_fma32(PK_32_(x), PK_32_(y), PK_32_(z))
+#define pk_fma64_flags(x, y, z, flags) pk_fma64_flags(PK_64_(x), PK_64_(y), PK_64_(z), flags)
+#define pk_fma32_flags(x, y, z, flags) pk_fma32_flags(PK_32_(x), PK_32_(y), PK_32_(z), flags)
+#define pk_scalbn64(x, n) pk_scalbn64(PK_64_(x), PK_INT_(n))
+#define pk_scalbn32(x, n) pk_scalbn32(PK_32_(x), PK_INT_(n))
+#define pk_scalbn64_flags(x, n, flags) pk_scalbn64_flags(PK_64_(x), PK_INT_(n), flags)
+#define pk_scalbn32_flags(x, n, flags) pk_scalbn32_flags(PK_32_(x), PK_INT_(n), flags)
+#define pk_fmod64(x, y) pk_fmod64(PK_64_(x), PK_64_(y))
+#define pk_fmod32(x, y) pk_fmod32(PK_32_(x), PK_32_(y))
+#define pk_remquo64(x, y, quotient) pk_remquo64(PK_64_(x), PK_64_(y), quotient)
+#define pk_reduce64(x, e, y, value) pk_reduce64(PK_64_(x), PK_32_(e), PK_64_(y), value)
+#define pk_reduce32(x, e, y, value) pk_reduce32(PK_32_(x), PK_32_(e), PK_32_(y), value)
+
+#define pk_pattern64(x) pk_pattern64(PK_DOUBLE_(x))
+#define pk_pattern32(x) pk_pattern32(PK_FLOAT_(x))
+#define pk_number64(bits) pk_number64(PK_64_(bits))
+#define pk_number32(bits) pk_number32(PK_32_(bits))
+#define pk_sqrt(x) pk_sqrt(PK_DOUBLE_(x))
+#define pk_sqrtf(x) pk_sqrtf(PK_FLOAT_(x))
+#define pk_sqrt_flags(x, flags) pk_sqrt_flags(PK_DOUBLE_(x), flags)
+#define pk_sqrtf_flags(x, flags) pk_sqrtf_flags(PK_FLOAT_(x), flags)
+#define pk_floor(x) pk_floor(PK_DOUBLE_(x))
+#define pk_floorf(x) pk_floorf(PK_FLOAT_(x))
+#define pk_floor_flags(x, flags) pk_floor_flags(PK_DOUBLE_(x), flags)
+#define pk_floorf_flags(x, flags) pk_floorf_flags(PK_FLOAT_(x), flags)
+#define pk_trunc(x) pk_trunc(PK_DOUBLE_(x))
+#define pk_truncf(x) pk_truncf(PK_FLOAT_(x))
+#define pk_trunc_flags(x, flags) pk_trunc_flags(PK_DOUBLE_(x), flags)
+#define pk_truncf_flags(x, flags) pk_truncf_flags(PK_FLOAT_(x), flags)
+#define pk_fma(x, y, z) pk_fma(PK_DOUBLE_(x), PK_DOUBLE_(y), PK_DOUBLE_(z))
+#define pk_fmaf(x, y, z) pk_fmaf(PK_FLOAT_(x), PK_FLOAT_(y), PK_FLOAT_(z))
+#define pk_fma_flags(x, y, z, flags) pk_fma_flags(PK_DOUBLE_(x), PK_DOUBLE_(y), PK_DOUBLE_(z), flags)
+#define pk_fmaf_flags(x, y, z, flags) pk_fmaf_flags(PK_FLOAT_(x), PK_FLOAT_(y), PK_FLOAT_(z), flags)
+#define pk_scalbn(x, n) pk_scalbn(PK_DOUBLE_(x), PK_INT_(n))
+#define pk_scalbnf(x, n) pk_scalbnf(PK_FLOAT_(x), PK_INT_(n))
+#define pk_scalbn_flags(x, n, flags) pk_scalbn_flags(PK_DOUBLE_(x), PK_INT_(n), flags)
+#define pk_scalbnf_flags(x, n, flags) pk_scalbnf_flags(PK_FLOAT_(x), PK_INT_(n), flags)
+#define pk_fmod(x, y) pk_fmod(PK_DOUBLE_(x), PK_DOUBLE_(y))
+#define pk_fmodf(x, y) pk_fmodf(PK_FLOAT_(x), PK_FLOAT_(y))
+#define pk_remquo(x, y, quotient) pk_remquo(PK_DOUBLE_(x), PK_DOUBLE_(y), quotient)
+
 #endif
 
 #endif

@@ -4,7 +4,6 @@
        cc -std=c99 -I include bindings/c/example.c target/staticlib/libpaskerotim.a -o example */
 #include <inttypes.h>
 #include <stdio.h>
-#include <string.h>
 
 #include "paskerotim.h"
 
@@ -12,72 +11,92 @@
 #define P64 "%016" PRIx64
 #define P32 "%08" PRIx32
 
-/* The pattern of a number, and the number of a pattern: the same bits, copied. */
-static uint64_t pattern(double number) {
-    uint64_t bits;
-    memcpy(&bits, &number, sizeof bits);
-    return bits;
+/* The flags are bits: the words of those that are raised, joined by +. */
+static void write_flags(uint32_t flags) {
+    const char *before = " ";
+    if (flags == PK_OK) printf(" OK");
+    if (flags & PK_INVALID) printf("%sINVALID", before), before = "+";
+    if (flags & PK_DIVBYZERO) printf("%sDIVBYZERO", before), before = "+";
+    if (flags & PK_OVERFLOW) printf("%sOVERFLOW", before), before = "+";
+    if (flags & PK_UNDERFLOW) printf("%sUNDERFLOW", before), before = "+";
+    if (flags & PK_INEXACT) printf("%sINEXACT", before);
+    printf("\n");
 }
 
-static double number(uint64_t bits) {
-    double same;
-    memcpy(&same, &bits, sizeof same);
-    return same;
+/* A pattern and its flags are one call, at either width. */
+static void roots(uint64_t x, uint32_t small) {
+    uint32_t flags;
+    uint64_t root = pk_sqrt64_flags(x, &flags);
+    printf("sqrt64 " P64 " -> " P64, x, root);
+    write_flags(flags);
+    uint32_t small_root = pk_sqrt32_flags(small, &flags);
+    printf("sqrt32 " P32 " -> " P32, small, small_root);
+    write_flags(flags);
 }
 
-static const char *word(uint32_t status) {
-    switch (status) {
-    case PK_OK: return "OK";
-    case PK_INVALID: return "INVALID";
-    case PK_INEXACT: return "INEXACT";
-    default: return "no status";
-    }
+/* Where the flags do not matter, the value alone. ISO C's names take numbers and give numbers. */
+static void values(void) {
+    uint64_t two = pk_pattern64(2.0);
+    printf("# the root of " P64 " is " P64 ", that of 2 is %.17g, as a float %.9g\n", two, pk_sqrt64(two), pk_sqrt(2.0),
+           (double)pk_sqrtf(2.0f));
+    printf("# fmod of 5.5 by 2 is %g\n", pk_fmod(5.5, 2.0));
 }
 
-/* A value and its status are two calls. */
-static void roots_and_whole_numbers(void) {
-    uint64_t two = pattern(2.0), below_zero = pattern(-1.0), x = pattern(-2.5);
-    uint32_t small_two = UINT32_C(0x40000000);
-    printf("sqrt64 " P64 " -> " P64 " %s\n", two, pk_sqrt64(two), word(pk_sqrt64_status(two)));
-    printf("sqrt64 " P64 " -> " P64 " %s\n", below_zero, pk_sqrt64(below_zero), word(pk_sqrt64_status(below_zero)));
-    printf("sqrt32 " P32 " -> " P32 " %s\n", small_two, pk_sqrt32(small_two), word(pk_sqrt32_status(small_two)));
-    printf("floor64 " P64 " -> " P64 " %s\n", x, pk_floor64(x), word(pk_floor64_status(x)));
+static void floors(double x) {
+    uint32_t flags;
+    double whole = pk_floor_flags(x, &flags);
+    printf("floor64 " P64 " -> " P64, pk_pattern64(x), pk_pattern64(whole));
+    write_flags(flags);
 }
 
-/* Rounded once: a product rounded by itself would leave nothing of this sum. 3/4 of the smallest number rounds up to it. */
+/* Rounded once: a product rounded by itself would leave nothing of this sum. 3/4 of the smallest number rounds up to it, and
+   2^1024 to infinity. The flags of several calls are joined by |. */
 static void rounded_once(void) {
-    uint64_t x = UINT64_C(0x3ff0000000000001), z = UINT64_C(0xbff0000000000002), y = pattern(1.5);
-    printf("fma64 " P64 " " P64 " " P64 " -> " P64 "\n", x, x, z, pk_fma64(x, x, z));
-    printf("scalbn64 " P64 " -1075 -> " P64 "\n", y, pk_scalbn64(y, -1075));
+    uint64_t x = UINT64_C(0x3ff0000000000001), z = UINT64_C(0xbff0000000000002), y = pk_pattern64(1.5), one = pk_pattern64(1.0);
+    uint32_t flags, all;
+    uint64_t value = pk_fma64_flags(x, x, z, &flags);
+    printf("fma64 " P64 " " P64 " " P64 " -> " P64, x, x, z, value);
+    write_flags(all = flags);
+    value = pk_scalbn64_flags(y, -1075, &flags);
+    printf("scalbn64 " P64 " -1075 -> " P64, y, value);
+    write_flags(flags), all |= flags;
+    value = pk_scalbn64_flags(one, 1024, &flags);
+    printf("scalbn64 " P64 " 1024 -> " P64, one, value);
+    write_flags(flags), all |= flags;
+    printf("# all three together raise");
+    write_flags(all);
 }
 
-/* A remainder and its quotient are two calls as well. */
-static void remainders(void) {
-    uint64_t x = pattern(-7.0), y = pattern(2.0);
-    printf("remquo64 " P64 " " P64 " -> " P64 " %" PRId32 "\n", x, y, pk_remquo64(x, y), pk_remquo64_quotient(x, y));
-    printf("# fmod of 5.5 by 2 is %g\n", number(pk_fmod64(pattern(5.5), y)));
+/* A remainder, with its quotient. */
+static void remainders(double x, double y) {
+    int quotient;
+    double rest = pk_remquo(x, y, &quotient);
+    printf("remquo64 " P64 " " P64 " -> " P64 " %d\n", pk_pattern64(x), pk_pattern64(y), pk_pattern64(rest), quotient);
 }
 
-/* The reduction may be refused. Its value is then 0, and the number says why. */
+/* The reduction may be refused. The value is then 0, and the number says why. */
 static void reduction(uint64_t x, uint32_t e, uint64_t y) {
-    uint32_t refusal = pk_reduce64_refusal(x, e, y);
-    printf("reduce64 " P64 " %" PRIu32 " " P64 " -> %" PRIu32 " " P64 "\n", x, e, y, refusal, pk_reduce64(x, e, y));
+    uint64_t value;
+    uint32_t refusal = pk_reduce64(x, e, y, &value);
+    printf("reduce64 " P64 " %" PRIu32 " " P64 " -> %" PRIu32 " " P64 "\n", x, e, y, refusal, value);
     if (refusal == PK_SHIFT_TOO_GREAT) printf("# refused: the shift is above %d\n", PK_SHIFT_LIMIT);
 }
 
 /* One call does a whole list, or refuses it and leaves the output as it was. */
 static void list(void) {
-    const uint64_t xs[3] = {pattern(0.5), pattern(0.75), pattern(-2.5)};
+    const uint64_t xs[3] = {pk_pattern64(0.5), pk_pattern64(0.75), pk_pattern64(-2.5)};
     uint64_t ys[3] = {0, 0, 0};
     if (pk_list64(PK_LIST_FLOOR, xs, 3, ys, 2) == PK_LENGTHS_DIFFER) printf("# refused: 3 places read, 2 to write\n");
     if (pk_list64(PK_LIST_FLOOR, xs, 3, ys, 3) != PK_DONE) return;
-    for (int i = 0; i < 3; i++) printf("# floor of %g is %g\n", number(xs[i]), number(ys[i]));
+    for (int i = 0; i < 3; i++) printf("# floor of %g is %g\n", pk_number64(xs[i]), pk_number64(ys[i]));
 }
 
 int main(void) {
-    roots_and_whole_numbers();
+    roots(pk_pattern64(2.0), pk_pattern32(2.0f));
+    values();
+    floors(-2.5);
     rounded_once();
-    remainders();
+    remainders(-7.0, 2.0);
     reduction(1, 4096, 7);
     reduction(1, 4097, 3);
     list();

@@ -2,19 +2,11 @@
 
 use crate::format::{WIDTH_32, WIDTH_64};
 
-/// The numbers of two statuses.
-const OK: u64 = 0;
-const INEXACT: u64 = 32;
-
 pub trait Answer: Copy {
     /// All of the answer in one word, so that no part of it goes unused and a later call can wait for it.
     fn mixed(self) -> u64;
     /// Whether two answers are alike; any two NaNs are.
     fn same(self, other: Self) -> bool;
-    /// Whether the values are alike, and ours is INEXACT where libm's is OK.
-    fn is_inexact_beside_ok(self, _: Self) -> bool {
-        false
-    }
 }
 
 macro_rules! pattern {
@@ -42,14 +34,26 @@ impl Answer for i32 {
     }
 }
 
+/// Our flags, or libm's status.
+#[derive(Clone, Copy, Default)]
+#[repr(transparent)]
+pub struct Flags(pub u32);
+
+/// The two are not the same thing, so that any are alike here; tools/compare has a judge for both.
+impl Answer for Flags {
+    fn mixed(self) -> u64 {
+        self.0.into()
+    }
+    fn same(self, _: Flags) -> bool {
+        true
+    }
+}
+
 impl<A: Answer, B: Answer> Answer for (A, B) {
     fn mixed(self) -> u64 {
         self.0.mixed() ^ self.1.mixed()
     }
     fn same(self, other: (A, B)) -> bool {
         self.0.same(other.0) && self.1.same(other.1)
-    }
-    fn is_inexact_beside_ok(self, crates: (A, B)) -> bool {
-        self.0.same(crates.0) && [self.1, crates.1].map(B::mixed) == [INEXACT, OK]
     }
 }

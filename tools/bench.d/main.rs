@@ -7,8 +7,6 @@ mod big;
 #[path = "../plain/format.rs"]
 #[allow(dead_code)]
 mod format;
-#[path = "../compare.d/halves.rs"]
-mod halves;
 mod measure;
 mod operands;
 mod operations;
@@ -64,7 +62,6 @@ fn asked(mut words: impl Iterator<Item = String>) -> Result<Run, String> {
         requests: String::new(),
         rows: Vec::new(),
         differences: Vec::new(),
-        halves: 0,
     };
     while let Some(word) = words.next() {
         let mut value = || words.next().ok_or(format!("{word} needs a value"));

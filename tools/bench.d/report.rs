@@ -16,14 +16,11 @@ pub fn text(run: &Run) -> String {
     lines.extend(run.rows.iter().map(cells));
     let mut text = aligned(&lines);
     text += &match run.differences.as_slice() {
-        [] if run.halves == 0 => "\nBoth sides answer alike on all these operands.\n".to_string(),
-        [] => format!("\nBoth sides answer alike on all these operands, but for {} half-says-ok of docs/DIFFERENCES.md.\n", run.halves),
-        some => format!("\n**The two sides do not answer alike**: {}.\n", some.join("; ")),
+        [] => "\nBoth sides answer alike on all these operands".to_string(),
+        some => format!("\n**The two sides do not answer alike**: {}", some.join("; ")),
     };
-    if !oracle::api::STATUSES {
-        text += "libm's statuses are those of a later text, and are not compared.\n";
-    }
-    text
+    let has_flags = run.rows.iter().any(|row| row.operation.ends_with("_flags"));
+    text + if has_flags { "; flags and libm's statuses are not compared here.\n" } else { ".\n" }
 }
 
 fn cells(row: &Row) -> [String; COLUMNS] {

@@ -38,19 +38,15 @@ pub struct Run {
     pub rows: Vec<Row>,
     /// Where the two sides do not answer alike.
     pub differences: Vec<String>,
-    /// How many statuses differ as half-says-ok of docs/DIFFERENCES.md has it, where all else is alike.
-    pub halves: usize,
 }
 
 impl Run {
-    /// One operation on one set, its operands drawn by `draw` and written by `request`. On those of which `is_half` holds
-    /// the statuses must differ as half-says-ok of docs/DIFFERENCES.md has it.
+    /// One operation on one set, its operands drawn by `draw` and written by `request`.
     pub fn measure<T: Copy, A: Answer>(
         &mut self,
         set: &'static str,
         draw: fn(&mut Random) -> T,
         request: fn(T) -> String,
-        is_half: fn(T) -> bool,
         ours: impl Fn(T, u64) -> A + Copy,
         theirs: impl Fn(T, u64) -> A + Copy,
     ) {
@@ -60,12 +56,7 @@ impl Run {
             self.requests.extend(operands.iter().map(|&operand| format!("{operation} {}\n", request(operand))));
             return;
         }
-        let is_alike = |x| match is_half(x) {
-            true => ours(x, 0).is_inexact_beside_ok(theirs(x, 0)),
-            false => ours(x, 0).same(theirs(x, 0)),
-        };
-        self.halves += operands.iter().filter(|&&x| is_half(x)).count();
-        self.compare(set, operands.iter().filter(|&&x| !is_alike(x)).count());
+        self.compare(set, operands.iter().filter(|&&x| !ours(x, 0).same(theirs(x, 0))).count());
         for (calls, name) in [(Calls::Independent, "independent"), (Calls::Dependent, "dependent")] {
             let (ours, theirs) = turns(self.passes, || pass(calls, &operands, ours), || pass(calls, &operands, theirs));
             self.rows.push(Row { operation: self.operation, set, calls: name, ours, theirs });
@@ -105,7 +96,7 @@ impl Run {
     }
 
     fn compare(&mut self, set: &str, differing: usize) {
-        if differing > 0 && (oracle::api::STATUSES || !self.operation.ends_with("_status")) {
+        if differing > 0 {
             self.differences.push(format!("{} on {set}: {differing} of {COUNT}", self.operation));
         }
     }

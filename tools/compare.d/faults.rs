@@ -4,7 +4,8 @@
 use crate::faults_rounded::{FUSED, OF_FUSED, OF_ROOTS, ROOTS};
 use crate::faults_whole::{OF_WHOLES, WHOLES};
 use crate::format::{Format, WIDTH_32, WIDTH_64};
-use crate::kinds::{kind_of, known_of};
+use crate::kinds::{in_values, known_of};
+use crate::plain::exact;
 use crate::request::{Answer, Request};
 use crate::run::{operation_of, requests, same};
 use crate::table;
@@ -140,10 +141,10 @@ fn each_fault_is_met() {
         for row in rows.iter().filter_map(|name| table::find(name)) {
             let operation = operation_of(row);
             let is_met = |request: &Request| {
-                let exact = Answer::exact(operation, request);
-                let mut answer = exact;
+                let right = exact(operation, request);
+                let mut answer = right;
                 spoil(operation.format, request, &mut answer);
-                answer != exact
+                answer != right
             };
             let mut stream = requests(row, 1, 50_000).take(50_000);
             assert!(stream.any(|(_, request)| is_met(&request)), "{}: {what}", row.name);
@@ -158,12 +159,14 @@ fn exact_answers_are_no_faults() {
     for name in [REMAINDERS, REDUCTIONS, ROOTS, FUSED, WHOLES].concat() {
         let row = table::find(name).unwrap();
         let operation = operation_of(row);
-        let kinds = known_of(operation);
+        let known = known_of(row);
         assert!([WIDTH_64, WIDTH_32].contains(&operation.format));
         for (_, request) in requests(row, 1, 20_000).take(20_000) {
-            let (exact, crates) = (Answer::exact(operation, &request), (row.crates)(&request));
-            let known = kind_of(&kinds, operation.format, &request).is_some();
-            assert!(known || same(row.nans, operation, &exact, &crates), "{name} {request:?}");
+            let (right, mut crates) = (exact(operation, &request), (row.crates)(&request));
+            // What libm says of flags is another matter.
+            crates.number = if row.alone.is_some() { right.number } else { crates.number };
+            let is_known = in_values(&known, &request).is_some();
+            assert!(is_known || same(row.nans, operation, &right, &crates), "{name} {request:?}");
         }
     }
 }

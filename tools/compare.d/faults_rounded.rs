@@ -1,9 +1,10 @@
 //! Faults of sqrt and fma that the operands drawn must meet, and what exact computation says of a root and of a sum.
 
-use crate::answers::fma;
 use crate::big::Big;
 use crate::faults::{Fault, fault, strike};
 use crate::format::Format;
+use crate::places::sum;
+use crate::plain::fma;
 use crate::request::{Answer, Request};
 
 pub const ROOTS: &[&str] = &["sqrt64", "sqrt32"];
@@ -19,16 +20,16 @@ pub static OF_ROOTS: [Fault; 10] = [
     fault(ROOTS, "a root beside a tie goes the wrong way", |f, r, a| {
         strike(a, is_root(f, r) && is_near_a_tie(f, r.x(), a.word, f.fraction_bits - 5))
     }),
-    fault(ROOTS, "a root that is not exact is INEXACT", |f, r, a| {
-        a.number |= 32 * i64::from(is_root(f, r) && root_of(f, r, a) != square(f, r.x()))
+    fault(ROOTS, "a root that is not exact is OK", |f, r, a| {
+        a.number *= i64::from(!is_root(f, r) || root_of(f, r, a) == square(f, r.x()))
     }),
     fault(ROOTS, "-0 loses its sign", |f, r, a| a.word &= !f.sign(r.x())),
     fault(ROOTS, "-0 is INVALID", |f, r, a| a.number |= i64::from(r.x() == f.sign_bit())),
     fault(ROOTS, "subnormals below zero are OK", |f, r, a| {
         a.number *= i64::from(!f.is_negative(r.x()) || f.exponent_field(r.x()) > 0)
     }),
-    fault(ROOTS, "a quiet NaN is OK", |f, r, a| {
-        a.number *= i64::from(f.magnitude(r.x()) < f.canonical_nan())
+    fault(ROOTS, "a quiet NaN is INVALID", |f, r, a| {
+        a.number |= i64::from(f.magnitude(r.x()) >= f.canonical_nan())
     }),
     fault(ROOTS, "a subnormal of one length", |f, r, a| {
         strike(a, is_root(f, r) && r.x().checked_ilog2() == Some(7))
@@ -127,16 +128,6 @@ fn is_sum(format: Format, request: &Request) -> bool {
     request.words.iter().all(|word| format.is_finite(*word))
         && !format.is_zero(request.x())
         && !format.is_zero(request.y())
-}
-/// The magnitude of the exact sum, in squares of units.
-pub fn sum(format: Format, [x, y, z]: [u64; 3]) -> Big {
-    let product = format.units(x).mul(&format.units(y));
-    let addend = format.scaled_units(z, format.unit_shift());
-    match format.sign(x) ^ format.sign(y) == format.sign(z) {
-        true => product.add(&addend),
-        false if product >= addend => product.sub(&addend),
-        false => addend.sub(&product),
-    }
 }
 /// The place of half a last place of a number of this magnitude.
 fn half_place(format: Format, sum: &Big) -> u32 {

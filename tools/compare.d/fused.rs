@@ -1,6 +1,7 @@
 //! The kinds of operands of fma: how far z stands from the product, what cancels, and what is no sum of two numbers.
 //! Ties, and results at the ends of the range, are in `fused_ties`; the known faults in `known`.
 
+use crate::ends::OF_FUSED;
 use crate::format::Format;
 use crate::fused_ties::{
     beside_a_tie, by_the_product, by_z, overflow, product_alone, subnormal_result, subnormal_tie,
@@ -8,12 +9,12 @@ use crate::fused_ties::{
 };
 use crate::known::at_the_fault;
 use crate::numbers::{digits, factors, finite, highest, moved, placed, scaled, with_top};
-use crate::quick::{Draw, draw, pattern, sign, special};
+use crate::quick::{Draw, draw, joined, pattern, sign, special};
 use crate::random::Random;
 use crate::request::Request;
 
 /// The known fault comes first, so that the shortest run meets it.
-pub static FOR_FUSED: [Draw; 20] = [
+const OTHERS: [Draw; 20] = [
     draw("at the known fault", at_the_fault),
     draw("every gap of exponents", every_gap),
     draw("gaps within two words", near_gap),
@@ -47,6 +48,7 @@ pub static FOR_FUSED: [Draw; 20] = [
     draw("three finite numbers", three_finite),
     draw("all classes", all_classes),
 ];
+pub static FOR_FUSED: [Draw; 32] = joined(OTHERS, OF_FUSED);
 
 /// The three with their signs turned in such a way that x y and z keep theirs against each other.
 fn any_signs(format: Format, [x, y, z]: [u64; 3], random: &mut Random) -> Request {
@@ -158,7 +160,7 @@ fn all_classes(format: Format, turn: u64, random: &mut Random) -> Request {
 #[cfg(test)]
 mod tests {
     use super::*;
-    use crate::answers::fma;
+    use crate::plain::fma;
     use crate::faults_rounded::gap;
     use crate::format::{WIDTH_32, WIDTH_64};
     use crate::quick::drawn;

@@ -17,7 +17,7 @@ fn half_place(format: Format, random: &mut Random) -> i32 {
 }
 
 /// Two factors of a number: a small one, where it has one.
-fn split(number: u64) -> [u64; 2] {
+pub fn split(number: u64) -> [u64; 2] {
     let small = [13, 11, 7, 5, 3].into_iter().find(|one| number % one == 0 && number > *one);
     small.map_or([number, 1], |one| [number / one, one])
 }
@@ -176,10 +176,11 @@ pub fn overflow(format: Format, turn: u64, random: &mut Random) -> [u64; 3] {
 #[cfg(test)]
 mod tests {
     use super::*;
-    use crate::answers::fma;
-    use crate::faults_rounded::{is_tie, sum};
+    use crate::faults_rounded::is_tie;
+    use crate::plain::fma;
     use crate::format::{WIDTH_32, WIDTH_64};
     use crate::fused::FOR_FUSED;
+    use crate::places::sum;
     use crate::quick::drawn;
     use std::collections::BTreeSet;
 

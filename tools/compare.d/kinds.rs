@@ -1,97 +1,174 @@
 //! The differences from libm that are known: which operands, and the entry of docs/DIFFERENCES.md that explains them.
 
-use crate::format::Format;
+use crate::format::{Format, WIDTH_64};
 use crate::halves::is_power_below_one;
-use crate::known::{is_lost, is_rounded_twice};
-use crate::operations::{OK, Operation, Status};
-use crate::request::{Answer, Request, number_of};
-use crate::run::leaves_status_out;
-use std::collections::BTreeMap;
+use crate::known::{at_the_fault, is_lost, is_rounded_twice};
+use crate::operations::Operation;
+use crate::plain::below;
+use crate::random::Random;
+use crate::request::flags::{INEXACT, INVALID, OVERFLOW, UNDERFLOW};
+use crate::request::{Answer, Request};
+use crate::table::Row;
 
 pub struct Kind {
     /// The entry's name in docs/DIFFERENCES.md.
     pub entry: &'static str,
     /// The operations as docs/LINES.md names them.
     pub operations: &'static [&'static str],
-    /// Whether operands are of the kind that the entry names.
-    pub holds: fn(Format, &Request) -> bool,
+    /// Operands that are of the kind. They stand at the head of a run, so that a short one meets it.
+    pub first: fn(Format) -> Request,
     pub other: Other,
 }
 
-/// What the other side says on operands of a kind.
-#[derive(Clone, Copy, Debug, PartialEq, Eq)]
+/// What the other side says on operands of a kind, of which the exact answer is known.
 pub enum Other {
-    /// Now and then another value.
-    AnotherValue,
-    /// Always the exact value, with this status.
-    ValueWith(Status),
+    /// Now and then another value; and where it takes the result for exact, no status.
+    AnotherValue(fn(&Request) -> bool),
+    /// Always this status, in place of the flags that the judge raises.
+    Status(u32, fn(&Case) -> bool),
 }
 
-impl Other {
-    fn is(self, exact: &Answer, other: &Answer) -> bool {
-        match self {
-            Other::AnotherValue => other.word != exact.word,
-            Other::ValueWith(status) => {
-                *other == Answer { word: exact.word, number: number_of(status) }
-            }
-        }
+/// Operands and their exact answer.
+pub struct Case<'a> {
+    pub operation: &'a Operation,
+    pub request: &'a Request,
+    pub exact: &'a Answer,
+}
+
+impl Case<'_> {
+    fn raises(&self, flags: u32) -> bool {
+        self.exact.number == i64::from(flags)
+    }
+    /// Where libm's fma at 64 has a status: a sum of finite numbers, none of them zero, that is inexact and of magnitude
+    /// from half the least normal number up to it, before it is rounded.
+    fn is_in_the_last_subnormal_binade(&self) -> bool {
+        let f = WIDTH_64;
+        let least = f.smallest_normal();
+        let usual = |x: &u64| f.is_finite(*x) && !f.is_zero(*x);
+        self.operation.format == f
+            && (least / 2..=least).contains(&f.magnitude(self.exact.word))
+            && self.request.words.iter().all(usual)
+            && self.exact.number != 0
+            && (least / 2..least).contains(&below(self.operation, self.request))
     }
 }
 
-pub static KINDS: [Kind; 3] = [
+const ROOTS: &[&str] = &["sqrt64", "sqrt32"];
+const WHOLES: &[&str] = &["trunc64", "trunc32", "floor64", "floor32"];
+const FUSED: &[&str] = &["fma64", "fma32"];
+
+pub static KINDS: [Kind; 12] = [
     Kind {
         entry: "fma64-lost-bits",
         operations: &["fma64"],
-        holds: |_, request| is_lost(request),
-        other: Other::AnotherValue,
+        first: |f| at_the_fault(f, 0, &mut Random::new(1, 1)),
+        other: Other::AnotherValue(is_lost),
     },
     Kind {
         entry: "fma32-rounded-twice",
         operations: &["fma32"],
-        holds: |_, request| is_rounded_twice(request),
-        other: Other::AnotherValue,
+        first: |f| at_the_fault(f, 0, &mut Random::new(1, 1)),
+        other: Other::AnotherValue(is_rounded_twice),
     },
     Kind {
         entry: "half-says-ok",
-        operations: &["trunc64", "trunc32", "floor64", "floor32"],
-        holds: |format, request| is_power_below_one(format, request.x()),
-        other: Other::ValueWith(OK),
+        operations: WHOLES,
+        first: |f| Request::word(f.one() - f.smallest_normal()),
+        other: Other::Status(0, |case| {
+            is_power_below_one(case.operation.format, case.request.x())
+        }),
+    },
+    Kind {
+        entry: "signalling-says-ok",
+        operations: WHOLES,
+        first: |f| Request::word(f.infinity() + 1),
+        other: Other::Status(0, |case| case.raises(INVALID)),
+    },
+    Kind {
+        entry: "inexact-root",
+        operations: ROOTS,
+        first: |f| Request::word(f.one() + f.smallest_normal()),
+        other: Other::Status(0, |case| case.raises(INEXACT)),
+    },
+    Kind {
+        entry: "quiet-nan-root",
+        operations: ROOTS,
+        first: |f| Request::word(f.canonical_nan()),
+        other: Other::Status(INVALID, |case| {
+            case.raises(0) && case.operation.format.is_nan(case.request.x())
+        }),
+    },
+    Kind {
+        entry: "fma-invalid-says-ok",
+        operations: FUSED,
+        first: |f| Request::three_words([0, f.infinity(), f.one()]),
+        other: Other::Status(0, |case| case.raises(INVALID)),
+    },
+    Kind {
+        entry: "fma-overflow-says-ok",
+        operations: FUSED,
+        first: |f| Request::three_words([f.largest_finite(), f.largest_finite(), f.one()]),
+        other: Other::Status(0, |case| case.raises(OVERFLOW | INEXACT)),
+    },
+    // Before the two that say OK: the first that holds decides.
+    Kind {
+        entry: "fma-underflow-alone",
+        operations: &["fma64"],
+        first: |f| Request::three_words([f.smallest_normal() + 1, f.one() - f.smallest_normal(), 1]),
+        other: Other::Status(UNDERFLOW, |case| {
+            case.raises(UNDERFLOW | INEXACT) && case.is_in_the_last_subnormal_binade()
+        }),
+    },
+    Kind {
+        entry: "fma-tiny-before-rounding",
+        operations: &["fma64"],
+        // An eighth of the smallest unit is taken off the least normal number.
+        first: |f| {
+            let eighth = f.one() - 3 * f.smallest_normal();
+            Request::three_words([f.sign_bit() | 1, eighth, f.smallest_normal()])
+        },
+        other: Other::Status(UNDERFLOW, |case| {
+            case.raises(INEXACT) && case.is_in_the_last_subnormal_binade()
+        }),
+    },
+    Kind {
+        entry: "fma-underflow-says-ok",
+        operations: FUSED,
+        first: |f| Request::three_words([1, f.one() - f.smallest_normal(), 0]),
+        other: Other::Status(0, |case| case.raises(UNDERFLOW | INEXACT)),
+    },
+    Kind {
+        entry: "fma-inexact-says-ok",
+        operations: FUSED,
+        first: |f| Request::three_words([f.one() + 1, f.one() + 1, f.one()]),
+        other: Other::Status(0, |case| case.raises(INEXACT)),
     },
 ];
 
-/// The known differences that a run of an operation can meet: one in statuses only where these are compared.
-pub fn known_of(operation: &Operation) -> Vec<&'static Kind> {
-    let is_seen = |kind: &Kind| kind.other == Other::AnotherValue || !leaves_status_out(operation);
-    KINDS.iter().filter(|kind| kind.operations.contains(&operation.name) && is_seen(kind)).collect()
+/// Whether libm's status of a row is compared: it must have one, and the text must be the one whose statuses are known.
+pub fn compares_status(row: &Row) -> bool {
+    row.has_status && oracle::api::STATUSES
 }
 
-/// The kind that operands are of, if they are of one.
-pub fn kind_of(
-    known: &[&'static Kind],
-    format: Format,
-    request: &Request,
-) -> Option<&'static Kind> {
-    known.iter().copied().find(|kind| (kind.holds)(format, request))
+/// The known differences that a run of a row can meet: one in statuses only where these are compared.
+pub fn known_of(row: &Row) -> Vec<&'static Kind> {
+    let is_seen =
+        |kind: &Kind| matches!(kind.other, Other::AnotherValue(_)) || compares_status(row);
+    KINDS.iter().filter(|kind| kind.operations.contains(&row.name) && is_seen(kind)).collect()
 }
 
-/// The entry that explains a difference: the operands must be of its kind, exact computation must side with the answer that
-/// is taken for right, and the other side must say what the entry has.
-pub fn explain(
-    known: &[&'static Kind],
-    operation: &Operation,
-    request: &Request,
-    right: &Answer,
-    other: &Answer,
-) -> Option<&'static str> {
-    let kind = kind_of(known, operation.format, request)?;
-    let exact = Answer::exact(operation, request);
-    (*right == exact && kind.other.is(&exact, other)).then_some(kind.entry)
+/// The place in the list of the kind whose values the operands may have, if there is one.
+pub fn in_values(known: &[&'static Kind], request: &Request) -> Option<usize> {
+    known.iter().position(|kind| matches!(kind.other, Other::AnotherValue(holds) if holds(request)))
 }
 
-/// The known differences that a run did not meet. Operands are built for each, so that where one is not met the other side
-/// is not the routine whose difference is known.
-pub fn unmet(known: &[&'static Kind], met: &BTreeMap<&'static str, u64>) -> Vec<&'static str> {
-    known.iter().map(|kind| kind.entry).filter(|entry| !met.contains_key(entry)).collect()
+/// The status that libm must give, and the place of the kind that says so where it is not the flags of the exact answer.
+pub fn in_status(known: &[&'static Kind], case: &Case) -> (i64, Option<usize>) {
+    let of = |(place, kind): (usize, &&'static Kind)| match kind.other {
+        Other::Status(says, holds) if holds(case) => Some((says.into(), Some(place))),
+        _ => None,
+    };
+    known.iter().enumerate().find_map(of).unwrap_or((case.exact.number, None))
 }
 
 /// A kind whose operation no entry names would explain by nothing. The entries are the rows of the table in the file.
@@ -113,80 +190,62 @@ pub fn check_entries(kinds: &[Kind]) -> Result<(), String> {
 #[cfg(test)]
 mod tests {
     use super::*;
-    use crate::operations::find;
+    use crate::plain::exact;
+    use crate::run::operation_of;
+    use crate::table::{ROWS, find};
 
-    static HALVES: Kind = Kind {
-        entry: "made-up",
-        operations: &["trunc64"],
-        holds: |_, r| r.x() == HALF,
-        other: Other::ValueWith(OK),
-    };
-    const HALF: u64 = 0x3fe0000000000000;
-    /// The exact answer to a half, which is INEXACT, and the one that is known to differ from it.
-    const CHANGED: Answer = Answer { word: 0, number: 32 };
-    const SAID: Answer = Answer { word: 0, number: 0 };
-
-    fn explained(x: u64, ours: Answer, other: Answer) -> Option<&'static str> {
-        explain(&[&HALVES], find("trunc64").unwrap(), &Request::word(x), &ours, &other)
+    fn entries(name: &str) -> Vec<&'static str> {
+        known_of(find(name).unwrap()).iter().map(|kind| kind.entry).collect()
     }
 
     #[test]
     fn a_kind_needs_its_entry_and_the_entry_its_operations() {
         let kind = |entry, operations| {
-            [Kind { entry, operations, holds: |_, _| true, other: Other::AnotherValue }]
+            [Kind { entry, operations, first: |_| Request::word(0), other: Other::Status(0, |_| true) }]
         };
         assert!(check_entries(&kind("fma64-lost-bits", &["fma64"])).is_ok());
         assert!(check_entries(&kind("fma64-lost-bits", &["fma64", "trunc64"])).is_err());
         assert!(check_entries(&kind("made-up", &["fma64"])).is_err());
     }
     #[test]
-    fn a_known_difference_is_unmet_until_it_is_counted() {
-        let fma = known_of(find("fma64").unwrap());
-        assert_eq!(unmet(&fma, &BTreeMap::new()), ["fma64-lost-bits"]);
-        assert!(unmet(&fma, &BTreeMap::from([("fma64-lost-bits", 1)])).is_empty());
-    }
-    #[test]
-    fn another_operation_has_another_or_none() {
-        let entries = |name| known_of(find(name).unwrap()).iter().map(|kind| kind.entry).collect();
-        let [wide, narrow, root, list]: [Vec<&str>; 4] =
-            ["fma64", "fma32", "sqrt64", "list64"].map(entries);
-        assert_eq!((wide, narrow), (vec!["fma64-lost-bits"], vec!["fma32-rounded-twice"]));
-        assert!(root.is_empty() && list.is_empty());
-    }
-    #[test]
-    fn one_in_statuses_is_asked_for_where_they_are_compared() {
-        for name in ["trunc64", "trunc32", "floor64", "floor32"] {
-            let asked = unmet(&known_of(find(name).unwrap()), &BTreeMap::new());
-            assert_eq!(asked == ["half-says-ok"], oracle::api::STATUSES);
+    fn the_first_operands_of_a_kind_are_of_it() {
+        for row in &ROWS {
+            let (known, operation) = (known_of(row), operation_of(row));
+            for (place, kind) in known.iter().enumerate() {
+                let request = (kind.first)(operation.format);
+                let answer = exact(operation, &request);
+                let case = Case { operation, request: &request, exact: &answer };
+                let met = match kind.other {
+                    Other::AnotherValue(_) => in_values(&known, &request),
+                    Other::Status(..) => in_status(&known, &case).1,
+                };
+                assert_eq!(met, Some(place), "{} {}", row.name, kind.entry);
+            }
         }
     }
     #[test]
-    fn operands_of_the_kind_with_the_exact_answer_are_explained() {
-        assert_eq!(explained(HALF, CHANGED, SAID), Some("made-up"));
+    fn each_operation_has_its_own() {
+        assert!(entries("scalbn64").is_empty() && entries("remquo64").is_empty());
+        let status = oracle::api::STATUSES;
+        assert_eq!(entries("sqrt32") == ["inexact-root", "quiet-nan-root"], status);
+        assert_eq!(entries("floor32") == ["half-says-ok", "signalling-says-ok"], status);
+        assert_eq!(entries("fma32").len(), if status { 5 } else { 1 });
+        assert_eq!(entries("fma64").len(), if status { 7 } else { 1 });
+        assert!(!entries("fma32").contains(&"fma-underflow-alone"));
     }
     #[test]
-    fn a_wrong_answer_of_ours_is_not() {
-        assert_eq!(explained(HALF, Answer { word: 1, ..CHANGED }, SAID), None);
-        assert_eq!(explained(HALF, SAID, SAID), None);
-    }
-    #[test]
-    fn another_answer_of_the_other_side_is_not() {
-        assert_eq!(explained(HALF, CHANGED, Answer { word: 1, ..SAID }), None);
-        assert_eq!(explained(HALF, CHANGED, Answer::status(0, 1)), None);
-        assert_eq!(explained(HALF, CHANGED, CHANGED), None);
-    }
-    #[test]
-    fn the_other_way_round_is_not() {
-        assert_eq!(explained(HALF, SAID, CHANGED), None);
-    }
-    #[test]
-    fn other_operands_are_not() {
-        assert_eq!(explained(HALF + 1, CHANGED, SAID), None);
-    }
-    #[test]
-    fn a_kind_of_values_takes_any_other_value() {
-        let [exact, other] = [CHANGED, Answer { word: 1, ..CHANGED }];
-        assert!(Other::AnotherValue.is(&exact, &other));
-        assert!(!Other::AnotherValue.is(&exact, &SAID));
+    fn a_status_of_no_kind_is_that_of_the_exact_answer() {
+        let row = find("trunc64").unwrap();
+        let operation = operation_of(row);
+        let said = |x: u64| {
+            let request = Request::word(x);
+            let answer = exact(operation, &request);
+            in_status(&known_of(row), &Case { operation, request: &request, exact: &answer }).0
+        };
+        let ok = if oracle::api::STATUSES { 0 } else { 32 };
+        assert_eq!(said(0x3fe0000000000000), ok);
+        assert_eq!(said(0x3fe8000000000000), 32);
+        assert_eq!(said(0x3ff0000000000000), 0);
+        assert_eq!(said(0x7ff8000000000000), 0);
     }
 }

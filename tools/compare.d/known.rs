@@ -15,6 +15,7 @@ use std::sync::OnceLock;
 /// going the other way.
 pub fn at_the_fault(format: Format, turn: u64, random: &mut Random) -> Request {
     match format == WIDTH_64 {
+        true if turn % 16 == 9 => lost_status(random),
         true => lost_bits(turn, random),
         false => rounded_twice(turn, random),
     }
@@ -53,6 +54,19 @@ fn lost_bits(turn: u64, random: &mut Random) -> Request {
     let flip = sign(f, random);
     let apart = if power_of_two || random.coin() { f.sign_bit() } else { 0 };
     Request::three_words([x ^ flip, y, z ^ flip ^ apart])
+}
+
+/// A product of whole units but for the tail, and z in the last binade of subnormal numbers: without its tail the sum is
+/// exact, and libm, which has a status there, says OK.
+fn lost_status(random: &mut Random) -> Request {
+    let f = WIDTH_64;
+    let a = 24 + random.below(3) as u32;
+    let digits = [(1 << a) + 1, (1 << 2 * a) - (1 << a) + 1];
+    let exponent = random.below(u64::from(3 * a) - 66) as i32 - (f.unit_shift() + 3 * a) as i32;
+    let [x, y] = factors(f, digits, exponent, random);
+    let half = f.smallest_normal() / 2;
+    let z = half + (1 << 12) + random.below(half - (1 << 13));
+    Request::three_words([x ^ sign(f, random), y, z ^ sign(f, random)])
 }
 
 /// c (2^a + 1) (2^2a - 2^a + 1) = c 2^3a + c.
@@ -162,7 +176,7 @@ fn numbers(format: Format, request: &Request) -> Option<[(u64, i32); 3]> {
 #[cfg(test)]
 mod tests {
     use super::*;
-    use crate::answers::fma;
+    use crate::plain::fma;
     use oracle::api;
     use std::collections::BTreeSet;
 
@@ -171,10 +185,10 @@ mod tests {
         (0..count).map(|turn| at_the_fault(format, turn, &mut random)).collect()
     }
     fn crate_is_wrong_at_64(r: &Request) -> bool {
-        api::fma64(r.x(), r.y(), r.z()) != fma(WIDTH_64, r.x(), r.y(), r.z())
+        api::fma64(r.x(), r.y(), r.z()).0 != fma(WIDTH_64, r.x(), r.y(), r.z())
     }
     fn later_text_is_wrong_at_32(r: &Request) -> bool {
-        u64::from(api::fma32(r.x32(), r.y32(), r.z32())) != fma(WIDTH_32, r.x(), r.y(), r.z())
+        u64::from(api::fma32(r.x32(), r.y32(), r.z32()).0) != fma(WIDTH_32, r.x(), r.y(), r.z())
     }
     /// By how many places the routine shifts the product down.
     fn shifted_by(r: &Request) -> i32 {
@@ -191,7 +205,7 @@ mod tests {
     fn a_third_of_what_is_built_is_struck_and_all_that_is_struck_is_of_the_kind() {
         let at_64 = built(WIDTH_64, 6000);
         let wrong: Vec<_> = at_64.iter().filter(|r| crate_is_wrong_at_64(r)).collect();
-        assert!(wrong.len() > 2000 && wrong.iter().all(|r| is_lost(r)), "{}", wrong.len());
+        assert!(wrong.len() > 1900 && wrong.iter().all(|r| is_lost(r)), "{}", wrong.len());
         let at_32 = built(WIDTH_32, 6000);
         let wrong: Vec<_> = at_32.iter().filter(|r| later_text_is_wrong_at_32(r)).collect();
         assert!(wrong.len() > 2000 && wrong.iter().all(|r| is_rounded_twice(r)), "{}", wrong.len());
@@ -203,6 +217,17 @@ mod tests {
         let shifts: BTreeSet<_> = wrong.iter().map(shifted_by).collect();
         assert!(shifts.iter().copied().eq(3..=44), "{shifts:?}");
         assert!(wrong.iter().any(|r| WIDTH_64.exponent_field(r.z()) == 0));
+    }
+    #[test]
+    fn a_tail_is_lost_to_the_status_too() {
+        let operation = crate::operations::find("fma64").unwrap();
+        let mut random = Random::new(1, 1);
+        for _ in 0..2000 {
+            let r = lost_status(&mut random);
+            let exact = crate::plain::exact(operation, &r);
+            assert!(is_lost(&r) && exact.number == 16 + 32, "{r:x?}");
+            assert_eq!(api::fma64(r.x(), r.y(), r.z()), (exact.word, 0), "{r:x?}");
+        }
     }
     #[test]
     fn other_operands_are_not_of_the_kinds() {

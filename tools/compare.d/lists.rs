@@ -7,8 +7,9 @@ use crate::format::WIDTH_64;
 use crate::lines::{write_fields, write_request};
 use crate::list_shapes::{FOR_LISTS, Shape};
 use crate::operations::{self, Field, Operation};
+use crate::plain::exact;
 use crate::random::Random;
-use crate::request::{Answer, Request};
+use crate::request::Request;
 use crate::run::{PRINTED, Run, Spoiled, caught, operation_of};
 use crate::table::{self, LISTS, Row};
 use crate::tally::{Progress, Tally};
@@ -123,7 +124,8 @@ fn operation() -> &'static Operation {
 /// Calls of every kind in turn, a hundredth of the count.
 pub fn drawn(run: &Run, ours: ListCall, count: u64) -> Tally {
     let calls = count.div_ceil(COUNT_A_CALL);
-    let mut tally = Tally::new(operation(), LISTS.nans.text(), String::new(), run.seed.to_string());
+    let about = (LISTS.nans.text(), "refusal, compared");
+    let mut tally = Tally::new(operation(), about, String::new(), run.seed.to_string());
     let mut random = Random::new(run.seed, 1001);
     let (mut progress, mut places) = (Progress::new(), 0);
     tally.kinds = vec![0; FOR_LISTS.len()];
@@ -210,7 +212,7 @@ fn difference(
     Some(match row {
         Some(row) => {
             let from = before[at - memory.output.start + memory.input.start];
-            let exact = Answer::exact(operation_of(row), &Request::word(from)).word;
+            let exact = exact(operation_of(row), &Request::word(from)).word;
             format!(
                 "{name}, from {from:016x}, is {is:016x}; libm gives {must:016x}; exact: {exact:016x}"
             )

@@ -6,8 +6,11 @@
 #![cfg_attr(test, allow(dead_code))]
 
 mod closing;
+mod ends;
 #[cfg(test)]
 mod faults;
+#[cfg(test)]
+mod faults_flags;
 #[cfg(test)]
 mod faults_lists;
 #[cfg(test)]
@@ -22,17 +25,23 @@ mod known;
 mod list_shapes;
 mod lists;
 mod numbers;
-#[cfg(sqrt_plain)]
-mod sqrt_plain;
+mod places;
+mod plain;
 mod quick;
+mod raised;
 mod record;
 mod reductions;
 mod remainders;
 mod request;
 mod roots;
 mod run;
+#[cfg(sqrt_plain)]
+mod sqrt_plain;
+mod squares;
 mod table;
 mod tally;
+#[cfg(test)]
+mod wrong_flags;
 
 // The plain program's modules: its exact answers, its boundary cases and the line format.
 #[allow(dead_code)]
@@ -50,6 +59,9 @@ mod big;
 #[allow(dead_code)]
 #[path = "../plain/cases.rs"]
 mod cases;
+#[allow(dead_code)]
+#[path = "../plain/draws_rounded.rs"]
+mod draws_rounded;
 #[allow(dead_code)]
 #[path = "../plain/draws_several.rs"]
 mod draws_several;

@@ -1,11 +1,13 @@
 //! Drawn operands made by shifts and masks alone, so that millions take a moment. Each kind is built on purpose and has a
 //! name, under which a run counts it. Here are the kinds of the operations on one pattern, and what all kinds draw from.
 
+use crate::ends::{OF_ONE, OF_SCALING};
 use crate::format::Format;
 use crate::random::Random;
 use crate::request::Request;
 
 /// One kind of operands: its name, and how the next of them is drawn. The turn counts those of the kind.
+#[derive(Clone, Copy)]
 pub struct Draw {
     pub kind: &'static str,
     pub make: fn(Format, u64, &mut Random) -> Request,
@@ -13,6 +15,21 @@ pub struct Draw {
 
 pub const fn draw(kind: &'static str, make: fn(Format, u64, &mut Random) -> Request) -> Draw {
     Draw { kind, make }
+}
+
+/// Two lists of kinds as one.
+pub const fn joined<const A: usize, const B: usize, const N: usize>(
+    first: [Draw; A],
+    second: [Draw; B],
+) -> [Draw; N] {
+    assert!(A + B == N);
+    let mut all = [first[0]; N];
+    let mut place = 1;
+    while place < N {
+        all[place] = if place < A { first[place] } else { second[place - A] };
+        place += 1;
+    }
+    all
 }
 
 /// The first so many requests of one kind.
@@ -25,7 +42,8 @@ pub fn drawn(draws: &[Draw], kind: &str, format: Format, count: u64) -> Vec<Requ
 
 /// Operands of floor and trunc: those of the known difference and their neighbours first, so that the shortest run meets
 /// it; then numbers about the integers at every exponent, and patterns of all classes.
-pub static FOR_WHOLE: [Draw; 3] = [
+pub static FOR_WHOLE: [Draw; 6] = joined(WHOLES, OF_ONE);
+const WHOLES: [Draw; 3] = [
     draw("about powers of two below one", |f, turn, random| {
         Request::word(about_power_below_one(f, turn, random))
     }),
@@ -34,7 +52,8 @@ pub static FOR_WHOLE: [Draw; 3] = [
 ];
 
 /// Operands of scalbn: every class of x, and powers that send it to where something changes.
-pub static FOR_SCALING: [Draw; 9] = [
+pub static FOR_SCALING: [Draw; 14] = joined(SCALED, OF_SCALING);
+const SCALED: [Draw; 9] = [
     draw("n about 0", |f, turn, random| scaled(f, turn, random, about_zero)),
     draw("n of the format's range", |f, turn, random| scaled(f, turn, random, as_far_as_the_field)),
     draw("subnormal results", |f, turn, random| scaled(f, turn, random, to_the_subnormals)),

@@ -1,37 +1,41 @@
 //! What a run leaves behind: lines with libm's answers, and a record of each operation's run for the tables at the end.
 
-use crate::kinds::{kind_of, known_of};
-use crate::lines::{write_fields, write_request};
-use crate::operations::{Kind, Operation};
-use crate::request::Answer;
-use crate::run::{Run, leaves_status_out, operation_of, requests};
-use crate::table::{Judge, Row};
+use crate::kinds::{in_values, known_of};
+use crate::lines::write_request;
+use crate::places::places_of;
+use crate::plain::exact;
+use crate::request::Beside;
+use crate::run::{Run, operation_of, requests};
+use crate::table::{Judge, LATER, Row};
 use crate::tally::Tally;
 use std::collections::{BTreeMap, HashSet};
 use std::io::Write;
 
-/// `count` different requests with libm's answers, or the plain program's where that judges. Where any two NaNs are
-/// equal the canonical one is written, and operands of the known differences are left out where it judges, so that
-/// what is written is what ours must answer.
+/// `count` different requests, with libm's values, or the plain program's where libm's own text is not given, and the plain
+/// program's flags. Where any two NaNs are equal the canonical one is written, and operands on which libm's value is known
+/// to differ are left out, so that what is written is what ours must answer.
 pub fn print_lines(row: &Row, seed: u64, count: u64) {
     let operation = operation_of(row);
-    let known = known_of(operation);
+    let known = known_of(row);
     let mut seen = HashSet::new();
     for (_, request) in requests(row, seed, count) {
         if seen.len() as u64 == count {
             break;
         }
-        let mut answer = match row.judge {
-            Judge::Crate => (row.crates)(&request),
-            Judge::Plain(_) => Answer::exact(operation, &request),
+        let crates = (row.crates)(&request);
+        let mut answer = match row.beside {
+            Beside::Flags => exact(operation, &request),
+            _ => crates,
         };
-        answer.word = row.nans.ours(operation.format, answer.word);
-        if row.judge == Judge::Crate && kind_of(&known, operation.format, &request).is_some() {
-            continue;
+        if row.judge != Judge::Plain(LATER) {
+            if in_values(&known, &request).is_some() {
+                continue;
+            }
+            answer.word = row.nans.ours(operation.format, crates.word);
         }
         let text = write_request(operation, &request.fields(operation));
         if seen.insert(text.clone()) {
-            println!("{text} -> {}", write_fields(operation, &answer.fields(operation)));
+            println!("{text} -> {}", answer.text(operation, row.beside));
         }
     }
 }
@@ -48,7 +52,9 @@ pub struct Record {
     pub panics: u64,
     /// How many differences each entry of docs/DIFFERENCES.md explains.
     pub explained: BTreeMap<String, u64>,
-    /// The known differences that should have been met and were not.
+    /// How many operands there were in each place where flags are decided.
+    pub places: BTreeMap<String, u64>,
+    /// The known differences, and the places, that should have been met and were not.
     pub unmet: Vec<String>,
     /// What stands beside the value, and whether it is compared; and what becomes of NaNs.
     pub beside: String,
@@ -68,53 +74,55 @@ impl Record {
             build: run.build.clone(),
             unexplained: tally.unexplained,
             panics: tally.panics,
-            explained: tally.explained.iter().map(|(entry, n)| (entry.to_string(), *n)).collect(),
+            explained: tally.explained_by().map(|(entry, n)| (entry.to_string(), n)).collect(),
+            places: places_of(tally.operation)
+                .iter()
+                .zip(&tally.places)
+                .map(|(place, n)| (place.to_string(), *n))
+                .collect(),
             unmet: tally.unmet.iter().map(|entry| entry.to_string()).collect(),
-            beside: beside(tally.operation).to_string(),
+            beside: tally.beside.to_string(),
             nans: tally.nans.to_string(),
         }
     }
 
-    /// Fields that no tab stands in, with tabs between them; an entry takes two, or one where it was not met.
+    /// Fields that no tab stands in, with tabs between them. After the fixed ones each begins with what it is of.
     fn line(&self) -> String {
         let [unexplained, panics] = [self.unexplained, self.panics].map(|count| count.to_string());
         let words = [&self.operation, &self.operands, &self.seed, &self.on, &self.build];
-        let counts = [&unexplained, &panics, &self.beside, &self.nans];
-        let explained = self.explained.iter().map(|(entry, count)| format!("{count} {entry}"));
-        let entries = explained.chain(self.unmet.iter().cloned());
-        let fields = words.into_iter().chain(counts).cloned();
-        fields.chain(entries).collect::<Vec<String>>().join("\t")
+        let fixed = [&unexplained, &panics, &self.beside, &self.nans];
+        let counted = |of: &'static str, counts: &BTreeMap<String, u64>| {
+            counts.iter().map(|(name, count)| format!("{of} {count} {name}")).collect::<Vec<_>>()
+        };
+        let unmet = self.unmet.iter().map(|name| format!("unmet {name}")).collect();
+        let rest = [counted("explained", &self.explained), counted("place", &self.places), unmet];
+        let fields = words.into_iter().chain(fixed).cloned();
+        fields.chain(rest.concat()).collect::<Vec<String>>().join("\t")
     }
 
     fn read(line: &str) -> Option<Record> {
         let fields: Vec<&str> = line.split('\t').collect();
-        let (fixed, entries) = fields.split_at_checked(9)?;
+        let (fixed, rest) = fields.split_at_checked(9)?;
         let [operation, operands, seed, on, build, _, _, beside, nans] =
             std::array::from_fn(|place| fixed[place].to_string());
         let mut record = Record { operation, operands, seed, on, build, ..Record::default() };
         (record.unexplained, record.panics) = (fixed[5].parse().ok()?, fixed[6].parse().ok()?);
         (record.beside, record.nans) = (beside, nans);
-        for entry in entries {
-            match entry.split_once(' ') {
-                Some((count, name)) => {
-                    record.explained.insert(name.to_string(), count.parse().ok()?);
+        for field in rest {
+            let (of, name) = field.split_once(' ')?;
+            let counts = match of {
+                "unmet" => {
+                    record.unmet.push(name.to_string());
+                    continue;
                 }
-                None => record.unmet.push(entry.to_string()),
-            }
+                "explained" => &mut record.explained,
+                "place" => &mut record.places,
+                _ => return None,
+            };
+            let (count, name) = name.split_once(' ')?;
+            counts.insert(name.to_string(), count.parse().ok()?);
         }
         Some(record)
-    }
-}
-
-/// What stands beside an operation's value, and whether it counts.
-fn beside(operation: &Operation) -> &'static str {
-    let has = |kind| operation.answer_kinds().contains(&kind);
-    match leaves_status_out(operation) {
-        true => "status, not compared",
-        false if has(Kind::Status) => "status, compared",
-        false if has(Kind::Signed) => "quotient, compared",
-        false if has(Kind::Unsigned) => "refusal, compared",
-        false => "nothing",
     }
 }
 
@@ -138,7 +146,6 @@ pub fn read(path: &str) -> Result<Vec<Record>, String> {
 #[cfg(test)]
 mod tests {
     use super::*;
-    use crate::operations::find;
 
     #[test]
     fn a_record_is_read_as_it_was_written() {
@@ -151,17 +158,10 @@ mod tests {
         };
         assert_eq!(Record::read(&record.line()), Some(record.clone()));
         record.explained = BTreeMap::from([("one".to_string(), 12), ("two".to_string(), 1)]);
-        record.unmet = vec!["three".to_string()];
+        record.places = BTreeMap::from([("x a quiet NaN".to_string(), 7)]);
+        record.unmet = vec!["three".to_string(), "a place of words".to_string()];
         record.nans = "bit for bit".to_string();
         assert_eq!(Record::read(&record.line()), Some(record));
         assert_eq!(Record::read("fma64\t100"), None);
-    }
-    #[test]
-    fn what_stands_beside_a_value_is_what_its_answer_has() {
-        let of = |name| beside(find(name).unwrap());
-        assert_eq!(of("fma32"), "nothing");
-        assert_eq!(of("remquo64"), "quotient, compared");
-        assert_eq!(of("reduce32"), "refusal, compared");
-        assert_eq!(of("sqrt64") == "status, compared", oracle::api::STATUSES);
     }
 }

@@ -1,8 +1,7 @@
 //! A request and an answer as plain numbers, cheap enough for billions of them, and the same as fields of a line. Those of
 //! the list call are its own.
 
-use crate::answers::judge;
-use crate::operations::{Field, INEXACT, INVALID, Kind, OK, Operation, Status};
+use crate::operations::{Field, Kind, Operation};
 
 /// Words, each in the order of the line, and at most one decimal number.
 #[derive(Clone, Copy, Debug, Default, PartialEq, Eq)]
@@ -11,7 +10,45 @@ pub struct Request {
     pub number: i64,
 }
 
-/// The word, and the number beside it: a status by its number, a quotient, a refusal.
+/// The flags of an answer in one word: libm's bits.
+pub mod flags {
+    pub const INVALID: u32 = 1;
+    pub const DIVBYZERO: u32 = 4;
+    pub const OVERFLOW: u32 = 8;
+    pub const UNDERFLOW: u32 = 16;
+    pub const INEXACT: u32 = 32;
+    /// Each with its name, in the order of docs/LINES.md.
+    pub const IN_ORDER: [(u32, &str); 5] = [
+        (INVALID, "INVALID"),
+        (DIVBYZERO, "DIVBYZERO"),
+        (OVERFLOW, "OVERFLOW"),
+        (UNDERFLOW, "UNDERFLOW"),
+        (INEXACT, "INEXACT"),
+    ];
+
+    /// As a line has them; a word with other bits as a number, which no line has.
+    pub fn text(word: i64) -> String {
+        let named = |(bit, _): &&(u32, &str)| word & i64::from(*bit) != 0;
+        let raised: Vec<&(u32, &str)> = IN_ORDER.iter().filter(named).collect();
+        let whole: i64 = raised.iter().map(|(bit, _)| i64::from(*bit)).sum();
+        match word {
+            0 => "OK".to_string(),
+            _ if whole != word => format!("flags {word:#x}"),
+            _ => raised.iter().map(|(_, name)| *name).collect::<Vec<_>>().join("+"),
+        }
+    }
+}
+
+/// What stands beside an operation's value.
+#[derive(Clone, Copy, Debug, PartialEq, Eq)]
+pub enum Beside {
+    Nothing,
+    Flags,
+    Quotient,
+    Refusal,
+}
+
+/// The word, and the number beside it: flags in a word, a quotient, a refusal.
 #[derive(Clone, Copy, Debug, Default, PartialEq, Eq)]
 pub struct Answer {
     pub word: u64,
@@ -70,9 +107,7 @@ impl Request {
                 }
                 Field::Signed(number) => request.number = (*number).into(),
                 Field::Unsigned(number) => request.number = (*number).into(),
-                Field::Words(_) | Field::Status(_) | Field::Flags(_) => {
-                    unreachable!("no operand is a list, a status or flags")
-                }
+                _ => unreachable!("only the list call takes more"),
             }
         }
         request
@@ -84,7 +119,7 @@ impl Request {
             Kind::Word => words.next().map(|word| Field::Word(*word)),
             Kind::Signed => Some(Field::Signed(self.number as i32)),
             Kind::Unsigned => Some(Field::Unsigned(self.number as u32)),
-            Kind::Words | Kind::Status | Kind::Flags => None,
+            _ => None,
         };
         operation.operand_kinds().iter().filter_map(field).collect()
     }
@@ -94,16 +129,15 @@ impl Answer {
     pub fn value(word: u64) -> Answer {
         Answer { word, ..Answer::default() }
     }
-    pub fn status(word: u64, status: u32) -> Answer {
-        Answer { word, number: status.into(), ..Answer::default() }
+    pub fn flags(word: u64, flags: u32) -> Answer {
+        Answer { word, number: flags.into() }
     }
     pub fn both((word, status): (u64, u32)) -> Answer {
-        Answer::status(word, status)
+        Answer::flags(word, status)
     }
     pub fn both32((word, status): (u32, u32)) -> Answer {
-        Answer::status(word.into(), status)
+        Answer::flags(word.into(), status)
     }
-
     pub fn quotient((word, quotient): (u64, i32)) -> Answer {
         Answer { word, number: quotient.into(), ..Answer::default() }
     }
@@ -111,49 +145,32 @@ impl Answer {
         Answer { word, number: number.into(), ..Answer::default() }
     }
 
-    /// The exact answer, by the plain program.
-    pub fn exact(operation: &Operation, request: &Request) -> Answer {
-        let mut answer = Answer::default();
-        for field in judge(operation, &request.fields(operation)) {
-            match field {
-                Field::Word(word) => answer.word = word,
-                Field::Signed(number) => answer.number = number.into(),
-                Field::Unsigned(number) => answer.number = number.into(),
-                Field::Status(status) => answer.number = number_of(status),
-                Field::Words(_) | Field::Flags(_) => unreachable!("no answer is a list or flags"),
-            }
+    /// As a line of docs/LINES.md has it.
+    pub fn text(&self, operation: &Operation, beside: Beside) -> String {
+        let word = format!("{:0digits$x}", self.word, digits = operation.format.width as usize / 4);
+        match beside {
+            Beside::Nothing => word,
+            Beside::Flags => format!("{word} {}", flags::text(self.number)),
+            Beside::Quotient => format!("{word} {}", self.number),
+            Beside::Refusal => format!("{} {word}", self.number),
         }
-        answer
-    }
-
-    pub fn fields(&self, operation: &Operation) -> Vec<Field> {
-        let field = |kind: &Kind| match kind {
-            Kind::Word => Some(Field::Word(self.word)),
-            Kind::Signed => Some(Field::Signed(self.number as i32)),
-            Kind::Unsigned => Some(Field::Unsigned(self.number as u32)),
-            Kind::Status => Some(Field::Status(status_of(self.number))),
-            Kind::Words | Kind::Flags => None,
-        };
-        operation.answer_kinds().iter().filter_map(field).collect()
     }
 }
 
-/// The number of a status in docs/DIFFERENCES.md.
-pub fn number_of(status: Status) -> i64 {
-    match status {
-        OK => 0,
-        INVALID => 1,
-        INEXACT => 32,
-        _ => -1,
-    }
-}
+#[cfg(test)]
+mod tests {
+    use super::*;
+    use crate::operations::find;
 
-/// The status of a number of docs/DIFFERENCES.md. A number that none has shows as both words, which no answer has.
-fn status_of(number: i64) -> Status {
-    match number {
-        0 => OK,
-        1 => INVALID,
-        32 => INEXACT,
-        _ => Status(INVALID.0 | INEXACT.0),
+    #[test]
+    fn an_answer_is_written_as_a_line_has_it() {
+        let text = |name, answer: Answer, beside| answer.text(find(name).unwrap(), beside);
+        assert_eq!(text("fmod32", Answer::value(7), Beside::Nothing), "00000007");
+        assert_eq!(text("remquo64", Answer::quotient((1, -4)), Beside::Quotient), "0000000000000001 -4");
+        assert_eq!(text("reduce32", Answer::refusal(4, 0), Beside::Refusal), "4 00000000");
+        assert_eq!(text("sqrt32", Answer::flags(0, 0), Beside::Flags), "00000000 OK");
+        let raised = flags::INEXACT | flags::OVERFLOW;
+        assert_eq!(text("sqrt32", Answer::flags(0, raised), Beside::Flags), "00000000 OVERFLOW+INEXACT");
+        assert_eq!(text("sqrt32", Answer::flags(0, 3), Beside::Flags), "00000000 flags 0x3");
     }
 }

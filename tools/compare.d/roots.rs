@@ -1,12 +1,13 @@
 //! The kinds of operands of sqrt. Squares are exact; where one is too long for the format, its first digits are taken.
 
+use crate::ends::OF_ONE;
 use crate::format::Format;
 use crate::numbers::{digits, highest, moved, placed, subnormal, with_top};
-use crate::quick::{Draw, draw, pattern, sign, special};
+use crate::quick::{Draw, draw, joined, pattern, sign, special};
 use crate::random::Random;
 use crate::request::Request;
 
-pub static FOR_ROOTS: [Draw; 11] = [
+const OTHERS: [Draw; 11] = [
     draw("exact squares", |f, turn, random| Request::word(exact_square(f, turn, random))),
     draw("beside an exact square", beside_exact),
     draw("squares of whole significands", square_of_a_number),
@@ -19,6 +20,7 @@ pub static FOR_ROOTS: [Draw; 11] = [
     draw("zeros, infinities, NaNs", specials),
     draw("all classes", |f, turn, random| Request::word(pattern(f, turn, random))),
 ];
+pub static FOR_ROOTS: [Draw; 14] = joined(OTHERS, OF_ONE);
 
 /// `number` times a power of two of the parity that is asked for: any for which there is a number that begins with all
 /// its digits, or with as many as a significand has.
@@ -117,9 +119,9 @@ fn specials(format: Format, _: u64, random: &mut Random) -> Request {
 #[cfg(test)]
 mod tests {
     use super::*;
-    use crate::answers::sqrt;
     use crate::faults_rounded::{is_near_a_tie, square};
     use crate::format::{WIDTH_32, WIDTH_64};
+    use crate::plain::sqrt;
     use crate::quick::drawn;
     use std::collections::BTreeSet;
 
@@ -130,7 +132,7 @@ mod tests {
         drawn(&FOR_ROOTS, kind, format, count).iter().map(|r| of(r.x())).collect()
     }
     fn is_exact(format: Format, x: u64) -> bool {
-        let root = format.units(sqrt(format, x).0);
+        let root = format.units(sqrt(format, x));
         root.mul(&root) == square(format, x)
     }
     #[test]
@@ -140,7 +142,7 @@ mod tests {
                 made(format, "exact squares", 3000, |x| is_exact(format, x)).into_iter().eq([true])
             );
             let length = |x: u64| {
-                let root = format.units(sqrt(format, x).0);
+                let root = format.units(sqrt(format, x));
                 root.bits() - root.twos()
             };
             let lengths = made(format, "exact squares", 3000, length);
@@ -155,7 +157,7 @@ mod tests {
             let kind = "roots as near to a tie as there are";
             // A tie itself is never met: its square has more digits than a number has.
             let part = format.fraction_bits - 5;
-            let near = |x| is_near_a_tie(format, x, sqrt(format, x).0, part);
+            let near = |x| is_near_a_tie(format, x, sqrt(format, x), part);
             let met = made(format, kind, 3000, |x| (near(x), format.exponent_field(x) % 2));
             assert!(met.iter().copied().eq([(true, 0), (true, 1)]), "{met:?}");
             assert!(!near(format.one() + 4));

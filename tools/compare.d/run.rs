@@ -1,12 +1,14 @@
 //! The runs: operands are drawn or counted through, both sides are called, and each answer is judged.
 
-use crate::answers::judge;
 use crate::cases::Requests;
-use crate::kinds::{self, Other, explain, kind_of, unmet};
-use crate::lines::{write_fields, write_request};
-use crate::operations::{self, Kind, Operation};
+use crate::kinds::{Case, compares_status, in_status, in_values, known_of};
+use crate::lines::write_request;
+use crate::operations::{self, Kind, Operation, Task};
+use crate::places::place_of;
+use crate::plain::exact;
 use crate::random::Random;
-use crate::request::{Answer, Request};
+use crate::request::{Answer, Beside, Request};
+use crate::squares;
 use crate::table::{Judge, Nans, OTHER, Row};
 use crate::tally::{Progress, Tally, kind_names};
 use std::panic::{AssertUnwindSafe, catch_unwind};
@@ -22,9 +24,13 @@ const MOST_BUILT: u64 = 20_000;
 pub enum Spoiled {
     Nothing,
     Ours,
-    /// What stands beside our word: a status, a quotient, a refusal.
+    /// What stands beside our word: flags, a quotient, a refusal.
     Number,
+    /// Our call that gives the value alone.
+    Alone,
     Crate,
+    /// libm's status.
+    Status,
     /// The plain program's answer, where that judges.
     Judge,
 }
@@ -34,7 +40,9 @@ impl Spoiled {
         match text {
             "ours" => Ok(Spoiled::Ours),
             "number" => Ok(Spoiled::Number),
+            "alone" => Ok(Spoiled::Alone),
             "crate" => Ok(Spoiled::Crate),
+            "status" => Ok(Spoiled::Status),
             "judge" => Ok(Spoiled::Judge),
             _ => Err(format!("nothing called '{text}' can be spoiled")),
         }
@@ -48,6 +56,16 @@ pub struct Run {
     pub on: String,
     pub build: String,
     pub spoiled: Spoiled,
+}
+
+/// What was answered for one request.
+pub struct Sides {
+    pub ours: Answer,
+    /// What our call for the value alone gave, where there is one.
+    pub alone: Option<u64>,
+    pub crates: Answer,
+    /// The plain program's answer, where that judges.
+    pub exact: Option<Answer>,
 }
 
 /// What the last panic said, to be reported with the operands that led to it.
@@ -74,24 +92,22 @@ pub fn operation_of(row: &Row) -> &'static Operation {
 impl Run {
     /// The boundary cases of the plain program, then operands drawn quickly.
     pub fn drawn(&self, row: &Row, count: u64) -> Tally {
-        let operation = operation_of(row);
-        let mut tally =
-            Tally::new(operation, row.nans.text(), count.to_string(), self.seed.to_string());
+        let mut tally = Tally::of_row(row, count.to_string(), self.seed.to_string());
         let mut progress = Progress::new();
         tally.kinds = vec![0; kind_names(row).count()];
         for (turn, (kind, request)) in (0..count).zip(requests(row, self.seed, count)) {
             tally.kinds[kind] += 1;
-            self.try_one(row, &request, &mut tally);
+            self.try_one(row, by_the_plain_program, &request, &mut tally);
             if turn % 256 == 0 {
                 progress.tell(row.name, turn, count);
             }
         }
-        tally.unmet = unmet(&tally.known, &tally.explained);
+        tally.look_for_unmet(count);
         let kinds = tally.kinds_text(kind_names(row));
         let tally = tally.close();
         println!("{}: of these {kinds}", row.name);
         if let Judge::Plain(beside) = row.judge {
-            println!("{}: the plain program judged, ours and {beside}", row.name);
+            println!("{}: the plain program judged every answer, ours and {beside}", row.name);
         }
         tally
     }
@@ -102,26 +118,36 @@ impl Run {
         if operation.format.width != 32 || operation.operand_kinds() != [Kind::Word] {
             return Err(format!("{} is not a function of one 32-bit operand", row.name));
         }
-        let mut tally = Tally::new(
-            operation,
-            row.nans.text(),
-            "all 4294967296".to_string(),
-            "none".to_string(),
-        );
+        // The plain program's roots would take ten minutes.
+        let judge: Exact = match operation.task {
+            Task::Sqrt => squares::exact,
+            _ => by_the_plain_program,
+        };
+        let mut tally = Tally::of_row(row, "all 4294967296".to_string(), "none".to_string());
         let mut progress = Progress::new();
         for block in 0..1u64 << 12 {
             for low in 0..1u64 << 20 {
-                self.try_one(row, &Request::word(block << 20 | low), &mut tally);
+                self.try_one(row, judge, &Request::word(block << 20 | low), &mut tally);
             }
             progress.tell(row.name, block, 1 << 12);
         }
-        tally.unmet = unmet(&tally.known, &tally.explained);
+        tally.look_for_unmet(1 << 32);
         Ok(tally.close())
     }
 
-    fn try_one(&self, row: &Row, request: &Request, tally: &mut Tally) {
-        match caught(|| ((row.ours)(request), (row.crates)(request))) {
-            Ok((ours, crates)) => self.settle(row, request, [ours, crates], tally),
+    fn try_one(&self, row: &Row, judge: Exact, request: &Request, tally: &mut Tally) {
+        let sides = || {
+            let crates = (row.crates)(request);
+            let is_judged = matches!(row.judge, Judge::Plain(_));
+            Sides {
+                ours: (row.ours)(request),
+                alone: row.alone.map(|alone| alone(request)),
+                crates,
+                exact: is_judged.then(|| judge(tally.operation, request, crates.word)),
+            }
+        };
+        match caught(sides) {
+            Ok(sides) => self.settle(row, request, sides, tally),
             Err(said) => {
                 tally.tried += 1;
                 let request = write_request(tally.operation, &request.fields(tally.operation));
@@ -130,103 +156,128 @@ impl Run {
         }
     }
 
-    /// What both sides answered is counted, and reported where it is not as it must be.
-    pub fn settle(&self, row: &Row, request: &Request, sides: [Answer; 2], tally: &mut Tally) {
+    /// What was answered is counted, and reported where it is not as it must be.
+    pub fn settle(&self, row: &Row, request: &Request, mut sides: Sides, tally: &mut Tally) {
         tally.tried += 1;
-        let ([mut ours, mut crates], operation) = (sides, tally.operation);
-        let kind = kind_of(&tally.known, operation.format, request);
-        let mut judged = judged(row, kind, operation, request);
         if tally.tried % 1000 == 0 {
-            self.spoil(operation, &mut ours, &mut crates, &mut judged);
+            self.spoil(tally.operation, &mut sides);
         }
-        if operation.answer_kinds()[0] == Kind::Unsigned {
-            *tally.refusals.entry(ours.number).or_default() += 1;
+        if row.beside == Beside::Refusal {
+            *tally.refusals.entry(sides.ours.number).or_default() += 1;
         }
-        let is_same = |one: &Answer, other: &Answer| same(row.nans, operation, one, other);
-        // A side that is known always to differ is looked at also where it does not.
-        let is_struck = kind.is_some_and(|kind| kind.other != Other::AnotherValue);
-        let differing = match &judged {
-            None => [(!is_same(&ours, &crates)).then_some((&ours, OTHER, &crates)), None],
-            Some((judged, beside)) => [
-                (!is_same(&ours, judged)).then_some((&ours, "the judge", judged)),
-                (is_struck || !is_same(judged, &crates)).then_some((judged, *beside, &crates)),
-            ],
-        };
-        for (right, who, answer) in differing.into_iter().flatten() {
-            report(request, right, who, answer, tally);
+        match (row.judge, sides.exact) {
+            (Judge::Plain(beside), Some(exact)) => {
+                settle_ours(row, request, &sides, &exact, tally);
+                settle_other(row, request, &sides.crates, &exact, beside, tally);
+                tally.places[place_of(tally.operation, request, &exact)] += 1;
+            }
+            _ if !same(row.nans, tally.operation, &sides.ours, &sides.crates) => {
+                let texts = [&sides.ours, &sides.crates].map(|one| text_of(row, one));
+                report(row, request, &texts[0], OTHER, &texts[1], tally);
+            }
+            _ => {}
         }
     }
-}
 
-/// The plain program's answer, where that judges both sides, and the name of the side that is not ours: in rows of its own,
-/// and on operands of a known difference.
-fn judged(
-    row: &Row,
-    kind: Option<&kinds::Kind>,
-    operation: &Operation,
-    request: &Request,
-) -> Option<(Answer, &'static str)> {
-    let beside = match (row.judge, kind) {
-        (Judge::Plain(beside), _) => beside,
-        (Judge::Crate, Some(_)) => OTHER,
-        (Judge::Crate, None) => return None,
-    };
-    Some((Answer::exact(operation, request), beside))
-}
-
-impl Run {
-    fn spoil(
-        &self,
-        operation: &Operation,
-        ours: &mut Answer,
-        crates: &mut Answer,
-        judged: &mut Option<(Answer, &str)>,
-    ) {
+    fn spoil(&self, operation: &Operation, sides: &mut Sides) {
         match self.spoiled {
             Spoiled::Nothing => {}
-            Spoiled::Ours => ours.word ^= 1,
-            Spoiled::Number => ours.number ^= 32,
+            Spoiled::Ours => sides.ours.word ^= 1,
+            Spoiled::Number => sides.ours.number ^= 32,
+            Spoiled::Alone => sides.alone.iter_mut().for_each(|word| *word ^= 1),
             // Any two NaNs may count as the same.
-            Spoiled::Crate if operation.format.is_nan(crates.word) => crates.word = 0,
-            Spoiled::Crate => crates.word ^= 1,
-            Spoiled::Judge => judged.iter_mut().for_each(|(judged, _)| judged.word ^= 1),
+            Spoiled::Crate if operation.format.is_nan(sides.crates.word) => sides.crates.word = 0,
+            Spoiled::Crate => sides.crates.word ^= 1,
+            Spoiled::Status => sides.crates.number ^= 4,
+            Spoiled::Judge => sides.exact.iter_mut().for_each(|exact| exact.word ^= 1),
         }
     }
+}
+
+/// How the exact answer is found; libm's value may be taken for a guess.
+type Exact = fn(&Operation, &Request, u64) -> Answer;
+
+fn by_the_plain_program(operation: &Operation, request: &Request, _: u64) -> Answer {
+    exact(operation, request)
+}
+
+/// Ours beside the judge's, and its value beside that of the call for the value alone.
+fn settle_ours(row: &Row, request: &Request, sides: &Sides, exact: &Answer, tally: &mut Tally) {
+    let (ours, alone) = (&sides.ours, sides.alone.unwrap_or(sides.ours.word));
+    if ours != exact {
+        report(row, request, &text_of(row, ours), "the judge", &text_of(row, exact), tally);
+    } else if ours.word != alone {
+        let alone = Answer::value(alone).text(tally.operation, Beside::Nothing);
+        report(row, request, &text_of(row, ours), "the call for the value alone", &alone, tally);
+    }
+}
+
+/// The other side beside the judge's: its value, and its status where that is compared.
+fn settle_other(
+    row: &Row,
+    request: &Request,
+    crates: &Answer,
+    exact: &Answer,
+    who: &str,
+    tally: &mut Tally,
+) {
+    let in_values = || in_values(&tally.known, request);
+    let (mut explained, mut is_explained) = ([None, None], true);
+    if exact.word != row.nans.ours(tally.operation.format, crates.word) {
+        // A judge that errs explains nothing.
+        explained[0] = in_values().filter(|_| *exact == self::exact(tally.operation, request));
+        is_explained = explained[0].is_some();
+    }
+    // A status counts beside a value that is right, or whose difference is known.
+    if is_explained && compares_status(row) {
+        let case = Case { operation: tally.operation, request, exact };
+        let (says, kind) = in_status(&tally.known, &case);
+        // What libm has lost it takes for nothing.
+        let lost = || in_values().filter(|_| crates.number == 0);
+        explained[1] = if crates.number == says { kind } else { lost() };
+        is_explained = crates.number == says || explained[1].is_some();
+    }
+    if is_explained {
+        explained[1] = explained[1].filter(|_| explained[0] != explained[1]);
+        explained.into_iter().flatten().for_each(|place| tally.explained[place] += 1);
+        return;
+    }
+    let beside = if compares_status(row) { row.beside } else { Beside::Nothing };
+    let crates = crates.text(tally.operation, beside);
+    report(row, request, &text_of(row, exact), who, &crates, tally);
+}
+
+fn text_of(row: &Row, answer: &Answer) -> String {
+    answer.text(operation_of(row), row.beside)
 }
 
 /// Whether two answers count as the same.
 pub fn same(nans: Nans, operation: &Operation, ours: &Answer, crates: &Answer) -> bool {
-    let word_same = ours.word == nans.ours(operation.format, crates.word);
-    let number_same = ours.number == crates.number || leaves_status_out(operation);
-    word_same && number_same
-}
-
-/// The later text of libm has other statuses, so they count only where the given text decides them.
-pub fn leaves_status_out(operation: &Operation) -> bool {
-    !oracle::api::STATUSES && operation.answer_kinds().contains(&Kind::Status)
+    ours.word == nans.ours(operation.format, crates.word) && ours.number == crates.number
 }
 
 /// `right` is taken for right, and `who` gives another answer.
-fn report(request: &Request, right: &Answer, who: &str, other: &Answer, tally: &mut Tally) {
-    let operation = tally.operation;
-    if let Some(entry) = explain(&tally.known, operation, request, right, other) {
-        *tally.explained.entry(entry).or_default() += 1;
-        return;
-    }
+fn report(
+    row: &Row,
+    request: &Request,
+    right: &str,
+    who: &str,
+    other: &str,
+    tally: &mut Tally,
+) {
     tally.unexplained += 1;
     if tally.unexplained > PRINTED {
         return;
     }
-    let operands = request.fields(operation);
-    let [right, other] =
-        [right, other].map(|side| write_fields(operation, &side.fields(operation)));
-    let exact = write_fields(operation, &judge(operation, &operands));
-    let request = write_request(operation, &operands);
+    let operation = tally.operation;
+    let exact = text_of(row, &exact(operation, request));
+    let request = write_request(operation, &request.fields(operation));
     println!("difference: {request} -> {right}; {who} gives {other}; exact: {exact}");
 }
 
-/// The stream of requests, each with its kind: the plain program's grid in any order, at most half of the count, so that
-/// a short run too has all classes; some of its drawn boundary cases, which take longer to make; then the row's own draws.
+/// The stream of requests, each with its kind: the first operands of each known difference; the plain program's grid in any
+/// order, at most half of the count, so that a short run too has all classes; some of its drawn boundary cases, which take
+/// longer to make; then the row's own draws.
 pub fn requests(row: &Row, seed: u64, count: u64) -> impl Iterator<Item = (usize, Request)> {
     let operation = operation_of(row);
     let (draws, format) = (row.draws, operation.format);
@@ -243,8 +294,9 @@ pub fn requests(row: &Row, seed: u64, count: u64) -> impl Iterator<Item = (usize
         let kind = (turn % kinds) as usize;
         (kind + 2, (draws[kind].make)(format, turn / kinds, &mut random))
     });
+    let heads = known_of(row).into_iter().map(move |kind| (1, (kind.first)(format)));
     let grid = grid.into_iter().map(|request| (0, request));
-    grid.chain(boundaries.map(|request| (1, request))).chain(drawn)
+    heads.chain(grid).chain(boundaries.map(|request| (1, request))).chain(drawn)
 }
 
 #[cfg(test)]
@@ -297,10 +349,13 @@ mod tests {
     }
     #[test]
     fn a_spoiled_side_is_seen_in_every_row() {
-        for spoiled in [Spoiled::Ours, Spoiled::Crate] {
+        for spoiled in [Spoiled::Ours, Spoiled::Number, Spoiled::Crate] {
             let run = run_spoiled(spoiled);
             for row in &crate::table::ROWS {
-                assert_eq!(run.drawn(row, 5000).unexplained, 5, "{}", row.name);
+                // libm may have any other value where its fma is known to err.
+                let least = if row.name.starts_with("fma") { 4 } else { 5 };
+                let found = run.drawn(row, 5000).unexplained;
+                assert!((least..=5).contains(&found), "{}: {found}", row.name);
             }
         }
     }

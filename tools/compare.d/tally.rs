@@ -1,11 +1,16 @@
 //! What a run has found, and what it says of it: one operation's counts, and a line every few seconds.
 
-use crate::kinds::{Kind, known_of};
+use crate::kinds::{Kind, compares_status, known_of};
 use crate::operations::Operation;
-use crate::run::PRINTED;
+use crate::places::places_of;
+use crate::request::Beside;
+use crate::run::{PRINTED, operation_of};
 use crate::table::Row;
 use std::collections::BTreeMap;
 use std::time::{Duration, Instant};
+
+/// From so many operands on a run must have met every place where flags are decided.
+const MEETS_ALL: u64 = 20_000;
 
 /// The names of the kinds of operands: those of the plain program, then the row's own.
 pub fn kind_names(row: &Row) -> impl Iterator<Item = &'static str> {
@@ -15,8 +20,9 @@ pub fn kind_names(row: &Row) -> impl Iterator<Item = &'static str> {
 /// What one operation's run has found.
 pub struct Tally {
     pub operation: &'static Operation,
-    /// What becomes of NaNs, in words.
+    /// What becomes of NaNs, and what stands beside the value, in words.
     pub nans: &'static str,
+    pub beside: &'static str,
     /// How many operands, in how many calls if a call takes many, and from what seed, if any.
     pub operands: String,
     pub calls: Option<u64>,
@@ -24,45 +30,84 @@ pub struct Tally {
     pub tried: u64,
     pub unexplained: u64,
     pub panics: u64,
-    pub explained: BTreeMap<&'static str, u64>,
-    /// The known differences that can be met, and those of them that were not.
+    /// The known differences that can be met, and how often each explained one.
     pub known: Vec<&'static Kind>,
+    pub explained: Vec<u64>,
+    /// The known differences, and the places, that should have been met and were not.
     pub unmet: Vec<&'static str>,
     /// How many operands of each kind there were, or calls, in the order of the kinds.
     pub kinds: Vec<u64>,
+    /// How many there were in each place where flags are decided, in the order of the places.
+    pub places: Vec<u64>,
     /// How often ours gave each number of a refusal, 0 among them; for the operations that have refusals.
     pub refusals: BTreeMap<i64, u64>,
+}
+
+/// What stands beside an operation's value, and what it is compared with.
+fn beside_text(row: &Row) -> &'static str {
+    match row.beside {
+        Beside::Nothing => "nothing",
+        Beside::Quotient => "quotient, compared",
+        Beside::Refusal => "refusal, compared",
+        Beside::Flags if compares_status(row) => "flags, judged; libm's status, compared",
+        Beside::Flags if row.has_status => "flags, judged; libm's status, not compared",
+        Beside::Flags => "flags, judged; libm has no status",
+    }
 }
 
 impl Tally {
     pub fn new(
         operation: &'static Operation,
-        nans: &'static str,
+        (nans, beside): (&'static str, &'static str),
         operands: String,
         seed: String,
     ) -> Tally {
         Tally {
             operation,
             nans,
+            beside,
             operands,
             calls: None,
             seed,
-            kinds: Vec::new(),
-            refusals: BTreeMap::new(),
             tried: 0,
             unexplained: 0,
             panics: 0,
-            explained: BTreeMap::new(),
-            known: known_of(operation),
+            known: Vec::new(),
+            explained: Vec::new(),
             unmet: Vec::new(),
+            kinds: Vec::new(),
+            places: Vec::new(),
+            refusals: BTreeMap::new(),
         }
+    }
+    pub fn of_row(row: &Row, operands: String, seed: String) -> Tally {
+        let operation = operation_of(row);
+        let mut tally = Tally::new(operation, (row.nans.text(), beside_text(row)), operands, seed);
+        tally.known = known_of(row);
+        tally.explained = vec![0; tally.known.len()];
+        tally.places = vec![0; places_of(operation).len()];
+        tally
     }
     pub fn is_clean(&self) -> bool {
         self.unexplained == 0 && self.panics == 0 && self.unmet.is_empty()
     }
+    /// The first operands of each known difference stand at the head of a run: where one was run and its difference not
+    /// met, the other side is not the routine that has it.
+    pub fn look_for_unmet(&mut self, count: u64) {
+        let known = self.known.iter().zip(&self.explained).take(count as usize);
+        self.unmet.extend(known.filter(|(_, met)| **met == 0).map(|(kind, _)| kind.entry));
+        let places = places_of(self.operation).iter().zip(&self.places);
+        let is_asked = count >= MEETS_ALL;
+        self.unmet.extend(places.filter(|(_, met)| is_asked && **met == 0).map(|(place, _)| *place));
+    }
+    /// Each known difference that was met, and how often.
+    pub fn explained_by(&self) -> impl Iterator<Item = (&'static str, u64)> + '_ {
+        let pairs = self.known.iter().zip(&self.explained);
+        pairs.map(|(kind, count)| (kind.entry, *count)).filter(|(_, count)| *count > 0)
+    }
     pub fn explained_text(&self) -> String {
         let texts: Vec<String> =
-            self.explained.iter().map(|(entry, count)| format!("{count} {entry}")).collect();
+            self.explained_by().map(|(entry, count)| format!("{count} {entry}")).collect();
         if texts.is_empty() { "none".to_string() } else { texts.join(", ") }
     }
     /// What the operands were, and what was refused: a line of its own, for all that was drawn.
@@ -94,10 +139,13 @@ impl Tally {
         println!(
             "{name}: {operands}, seed {seed}: {found} differences not explained, explained: {explained}{panics}"
         );
-        for entry in &self.unmet {
-            println!(
-                "{name}: the known difference {entry} was not met: the other side is not the routine that has it"
-            );
+        for unmet in &self.unmet {
+            match places_of(self.operation).contains(unmet) {
+                true => println!("{name}: no operand was met there: {unmet}"),
+                false => println!(
+                    "{name}: the known difference {unmet} was not met: the other side is not the routine that has it"
+                ),
+            }
         }
         self
     }
@@ -119,5 +167,38 @@ impl Progress {
             self.next += Progress::EVERY;
             eprintln!("compare: {name} {}%", done as u128 * 100 / all as u128);
         }
+    }
+}
+
+#[cfg(test)]
+mod tests {
+    use super::*;
+    use crate::table::find;
+
+    /// A run of so many operands that has met all but one place, and all but one known difference.
+    fn unmet(count: u64) -> Vec<&'static str> {
+        let row = find("fma64").unwrap();
+        let mut tally = Tally::of_row(row, String::new(), String::new());
+        tally.explained.iter_mut().skip(1).for_each(|count| *count = 1);
+        tally.places.iter_mut().skip(1).for_each(|count| *count = 1);
+        tally.look_for_unmet(count);
+        assert!(!tally.is_clean());
+        tally.unmet
+    }
+
+    #[test]
+    fn a_place_that_is_not_met_is_named_from_a_count_on() {
+        assert_eq!(unmet(MEETS_ALL - 1), ["fma64-lost-bits"]);
+        assert_eq!(unmet(MEETS_ALL), ["fma64-lost-bits", "x a signalling NaN"]);
+    }
+    #[test]
+    fn a_known_difference_is_asked_for_where_its_first_operands_were_run() {
+        let row = find("fma64").unwrap();
+        let mut tally = Tally::of_row(row, String::new(), String::new());
+        tally.explained.iter_mut().take(1).for_each(|count| *count = 1);
+        tally.look_for_unmet(1);
+        assert!(tally.is_clean());
+        tally.look_for_unmet(2);
+        assert_eq!(tally.is_clean(), tally.known.len() == 1);
     }
 }

@@ -3,34 +3,44 @@
 use crate::math::generic;
 use crate::math::support::{Round, Status, linear_mul_reduction};
 
-/// A value and a status as the numbers of docs/DIFFERENCES.md: 0 OK, 1 INVALID, 32 INEXACT.
-/// They mean something only where floor, trunc, sqrt and env are the given text; see `STATUSES`.
+/// A value and a status as a word of 0.2.16's bits: 1 INVALID, 4 DIVIDE_BY_ZERO, 8 OVERFLOW, 16 UNDERFLOW, 32 INEXACT.
+/// It means something only where floor, trunc, sqrt, fma and env are the given text; see `STATUSES`.
 pub type Answer<Word> = (Word, u32);
 
 /// Whether the statuses are those of 0.2.16: the build says so where it has the given text.
 pub const STATUSES: bool = cfg!(given_statuses);
 
+/// By name, as a later text has other bits. No routine here raises two at once.
 fn number(status: Status) -> u32 {
-    let known = [(Status::OK, 0), (Status::INVALID, 1), (Status::INEXACT, 32)];
+    let known = [
+        (Status::OK, 0),
+        (Status::INVALID, 1),
+        (Status::DIVIDE_BY_ZERO, 4),
+        (Status::OVERFLOW, 8),
+        (Status::UNDERFLOW, 16),
+        (Status::INEXACT, 32),
+    ];
     known.iter().find(|(one, _)| *one == status).map_or(u32::MAX, |(_, number)| *number)
 }
 
 macro_rules! with_status {
-    ($name:ident, $word:ty, $float:ty, $call:expr) => {
+    ($name:ident, $word:ty, $float:ty, ($($operand:ident),+), $call:expr) => {
         #[inline(never)]
-        pub fn $name(x: $word) -> Answer<$word> {
-            let call: fn($float) -> crate::math::support::FpResult<$float> = $call;
-            let result = call(<$float>::from_bits(x));
+        pub fn $name($($operand: $word),+) -> Answer<$word> {
+            let result: crate::math::support::FpResult<$float> = $call($(<$float>::from_bits($operand)),+);
             (result.val.to_bits(), number(result.status))
         }
     };
 }
-with_status!(sqrt64, u64, f64, |x| generic::sqrt_round(x, Round::Nearest));
-with_status!(sqrt32, u32, f32, |x| generic::sqrt_round(x, Round::Nearest));
-with_status!(floor64, u64, f64, generic::floor_status);
-with_status!(floor32, u32, f32, generic::floor_status);
-with_status!(trunc64, u64, f64, generic::trunc_status);
-with_status!(trunc32, u32, f32, generic::trunc_status);
+with_status!(sqrt64, u64, f64, (x), |x| generic::sqrt_round(x, Round::Nearest));
+with_status!(sqrt32, u32, f32, (x), |x| generic::sqrt_round(x, Round::Nearest));
+with_status!(floor64, u64, f64, (x), generic::floor_status);
+with_status!(floor32, u32, f32, (x), generic::floor_status);
+with_status!(trunc64, u64, f64, (x), generic::trunc_status);
+with_status!(trunc32, u32, f32, (x), generic::trunc_status);
+with_status!(fma64, u64, f64, (x, y, z), |x, y, z| generic::fma_round(x, y, z, Round::Nearest));
+// A later text, as the release's own file is not given.
+with_status!(fma32, u32, f32, (x, y, z), |x, y, z| generic::fma_wide_round(x, y, z, Round::Nearest));
 
 macro_rules! value_alone {
     ($name:ident, $word:ty, $float:ty, ($($operand:ident),+), $call:expr) => {
@@ -40,11 +50,10 @@ macro_rules! value_alone {
         }
     };
 }
-value_alone!(fma64, u64, f64, (x, y, z), crate::math::fma);
-value_alone!(fma32, u32, f32, (x, y, z), crate::math::fmaf);
 value_alone!(fmod64, u64, f64, (x, y), generic::fmod);
 value_alone!(fmod32, u32, f32, (x, y), generic::fmod);
 
+/// scalbn has no status in libm.
 #[inline(never)]
 pub fn scalbn64(x: u64, n: i32) -> u64 {
     generic::scalbn(f64::from_bits(x), n).to_bits()

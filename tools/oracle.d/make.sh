@@ -28,9 +28,9 @@ assemble() { # sets tree
             fail 2 "neither text has $file"
         fi
     done
-    # The files in which a status of sqrt, floor and trunc is decided.
+    # The files in which a status of sqrt, floor, trunc and fma at 64 is decided.
     statuses=given
-    for name in generic/floor generic/trunc generic/sqrt support/env; do
+    for name in generic/floor generic/trunc generic/sqrt generic/fma support/env; do
         grep -q "^math/$name.rs: given" "$part/ORIGIN" || statuses='not given: values alone count'
     done
     echo "statuses: $statuses" >>"$part/ORIGIN"

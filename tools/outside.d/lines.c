@@ -62,7 +62,7 @@ static void put_claim(struct text written, const struct request *request, const 
         flush();
     put(written.start, length);
     put(" -> ", 4);
-    if (request->attribute != FLAGS)
+    if (request->attribute != NONE)
         put("0 ", 2);
     put_word(request->width, answer->bits);
     put(" ", 1);

@@ -8,8 +8,9 @@
 
 enum operation { SQRT, FMA, SCALBN, FLOOR, TRUNC, OPERATIONS };
 enum width { W64, W32, W16, WIDTHS };
-/* RISC-V's numbers and SoftFloat's. OTHER is any number above them; floor and trunc are asked for their flags alone. */
-enum attribute { EVEN, ZERO, DOWN, UP, AWAY, OTHER, FLAGS, ATTRIBUTES };
+/* RISC-V's numbers and SoftFloat's. OTHER is any number above them; a name without an attribute rounds to nearest even, and
+   floor and trunc have none. */
+enum attribute { EVEN, ZERO, DOWN, UP, AWAY, OTHER, NONE, ATTRIBUTES };
 enum { INVALID = 1, DIVBYZERO = 4, OVERFLOW = 8, UNDERFLOW = 16, INEXACT = 32 };
 
 struct request {
@@ -54,5 +55,6 @@ void count(const struct request *request, enum outcome outcome);
 void tell_counts(void);
 const char *operation_name(enum operation operation);
 const char *attribute_name(enum attribute attribute);
+enum attribute rounding_of(const struct request *request);
 
 #endif

@@ -76,7 +76,7 @@ static int attribute_of(const struct request *request) {
     static const int modes[] = {[EVEN] = FE_TONEAREST, [ZERO] = FE_TOWARDZERO, [DOWN] = FE_DOWNWARD, [UP] = FE_UPWARD};
     if (request->operation == FLOOR)
         return FE_DOWNWARD;
-    return request->operation == TRUNC ? FE_TOWARDZERO : modes[request->attribute];
+    return request->operation == TRUNC ? FE_TOWARDZERO : modes[rounding_of(request)];
 }
 
 static struct answer calculate(const struct request *request, uint64_t y) {

@@ -75,13 +75,14 @@ static bool read_word(struct text field, enum width width, uint64_t *bits) {
     return wrong == 0;
 }
 
-/* What stands after the point: an attribute's name or number, but the flags of floor and trunc. */
+/* What stands after the width: nothing, or a point and an attribute's name or number, but for floor and trunc. */
 static bool read_attribute(struct text text, struct request *request) {
     uint64_t number;
-    if (request->operation == FLOOR || request->operation == TRUNC) {
-        request->attribute = FLAGS;
-        return is(text, "flags");
-    }
+    request->attribute = NONE;
+    if (text.start == text.end)
+        return true;
+    if (request->operation == FLOOR || request->operation == TRUNC || !takes(&text, "."))
+        return false;
     for (int attribute = EVEN; attribute <= AWAY; attribute++) {
         request->attribute = attribute;
         if (is(text, attribute_name(attribute)))
@@ -94,7 +95,7 @@ static bool read_attribute(struct text text, struct request *request) {
 }
 
 static bool read_name(struct text name, struct request *request) {
-    static const char *const widths[WIDTHS] = {"64.", "32.", "16."};
+    static const char *const widths[WIDTHS] = {"64", "32", "16"};
     for (int operation = 0; operation < OPERATIONS; operation++) {
         struct text rest = name;
         if (!takes(&rest, operation_name(operation)))
@@ -150,7 +151,7 @@ bool read_request(struct text *line, struct request *request, char *error, size_
     struct text text = *line, field = *line;
     next_field(&text, &field);
     if (!read_name(field, request)) {
-        snprintf(error, room, "no operation \"%s\"; expected sqrtW.A, fmaW.A, scalbnW.A, floorW.flags or truncW.flags", shown(field));
+        snprintf(error, room, "no operation \"%s\"; expected sqrtW, fmaW, scalbnW, floorW or truncW, or sqrtW.A, fmaW.A or scalbnW.A", shown(field));
         return false;
     }
     int wanted = operands[request->operation], found = 0;

@@ -49,7 +49,7 @@ enum outcome work_out(const struct request *request, struct answer *answer) {
         return outcome;
     softfloat_exceptionFlags = 0;
     /* The attributes have its own numbers. */
-    softfloat_roundingMode = request->attribute == FLAGS ? EVEN : request->attribute;
+    softfloat_roundingMode = rounding_of(request);
     switch (request->operation) {
     case SQRT: result = f64_sqrt(x); break;
     case FMA: result = f64_mulAdd(x, (float64_t){request->operand[1]}, (float64_t){request->operand[2]}); break;

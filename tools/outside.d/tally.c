@@ -22,8 +22,13 @@ const char *operation_name(enum operation operation) {
 }
 
 const char *attribute_name(enum attribute attribute) {
-    static const char *const names[ATTRIBUTES] = {"even", "zero", "down", "up", "away", "NUMBER", "flags"};
+    static const char *const names[ATTRIBUTES] = {"even", "zero", "down", "up", "away", "NUMBER", ""};
     return names[attribute];
+}
+
+/* The attribute to compute under, of a request that names one or none. */
+enum attribute rounding_of(const struct request *request) {
+    return request->attribute == NONE ? EVEN : request->attribute;
 }
 
 void count(const struct request *request, enum outcome outcome) {
@@ -37,8 +42,8 @@ static void tell(enum operation operation, enum width width, enum attribute attr
         left_out += of[i];
     if (of[ANSWERED] + left_out == 0)
         return;
-    fprintf(stderr, "%s: %s%d.%s: %" PRIu64 " answered, %" PRIu64 " left out", back_end, operation_name(operation),
-            4 * digits[width], attribute_name(attribute), of[ANSWERED], left_out);
+    fprintf(stderr, "%s: %s%d%s%s: %" PRIu64 " answered, %" PRIu64 " left out", back_end, operation_name(operation),
+            4 * digits[width], attribute == NONE ? "" : ".", attribute_name(attribute), of[ANSWERED], left_out);
     const char *before = ": ";
     for (int i = ANSWERED + 1; i < OUTCOMES; i++) {
         if (of[i] == 0)

@@ -1,10 +1,11 @@
-// The operations themselves, on exact whole numbers of smallest units.
+// The operations themselves, to nearest even, on exact whole numbers of smallest units.
 
 use crate::answers_flags;
+use crate::attributes::Attribute;
 use crate::big::Big;
 use crate::format::{Format, WIDTH_64};
-use crate::operations::{Field, Form, Operation, Status, Task, INEXACT, INVALID, OK};
-use crate::rounding::{exact, nearest, nearest_root};
+use crate::operations::{Field, Flags, Form, Operation, Task};
+use crate::rounding::{exact, nearest_root, nearest_with_flags};
 
 const LONGEST_LIST: usize = 8192;
 const LARGEST_SHIFT: u32 = 4096;
@@ -16,13 +17,7 @@ pub fn judge(operation: &Operation, operands: &[Field]) -> Vec<Field> {
         return answers_flags::judge(operation, operands);
     }
     let format = operation.format;
-    let with_status = |(value, status)| vec![Word(value), Field::Status(status)];
     match (operation.task, operands) {
-        (Task::Sqrt, [Word(x)]) => with_status(sqrt(format, *x)),
-        (Task::Floor, [Word(x)]) => with_status(floor(format, *x)),
-        (Task::Trunc, [Word(x)]) => with_status(trunc(format, *x)),
-        (Task::Scalbn, [Word(x), Signed(n)]) => vec![Word(scalbn(format, *x, *n))],
-        (Task::Fma, [Word(x), Word(y), Word(z)]) => vec![Word(fma(format, *x, *y, *z))],
         (Task::Fmod, [Word(x), Word(y)]) => vec![Word(fmod(format, *x, *y))],
         (Task::Remquo, [Word(x), Word(y)]) => {
             let (value, quotient) = remquo(format, *x, *y);
@@ -36,86 +31,134 @@ pub fn judge(operation: &Operation, operands: &[Field]) -> Vec<Field> {
             let (refusal, after) = list(*number, input, output);
             vec![Unsigned(refusal), Words(after)]
         }
+        _ => {
+            let (value, flags) = settled(operation, operands);
+            vec![Word(value), Field::Flags(flags)]
+        }
+    }
+}
+
+/// Value and flags by two ways that share no rounding: the search among
+/// neighbours, and the digits cut off. Where they differ, neither is a judge.
+fn settled(operation: &Operation, operands: &[Field]) -> (u64, Flags) {
+    let searched = by_search(operation, operands);
+    let cut = answers_flags::under(operation, Attribute::Even, operands);
+    let name = operation.name;
+    assert!(searched == cut, "{name} {operands:x?}: {searched:x?} by search, {cut:x?} by digits");
+    searched
+}
+
+/// Value and flags to nearest even, and of the integers, by the search.
+pub fn by_search(operation: &Operation, operands: &[Field]) -> (u64, Flags) {
+    use Field::{Signed, Word};
+    let format = operation.format;
+    match (operation.task, operands) {
+        (Task::Sqrt, [Word(x)]) => sqrt(format, *x),
+        (Task::Floor, [Word(x)]) => floor(format, *x),
+        (Task::Trunc, [Word(x)]) => trunc(format, *x),
+        (Task::Scalbn, [Word(x), Signed(n)]) => scalbn(format, *x, *n),
+        (Task::Fma, [Word(x), Word(y), Word(z)]) => fma_with_flags(format, [*x, *y, *z]),
         _ => unreachable!("the reader admits only the operands of the table"),
     }
 }
 
-pub fn sqrt(format: Format, x: u64) -> (u64, Status) {
-    if format.is_zero(x) || x == format.infinity() {
-        return (x, OK);
-    }
-    if format.is_nan(x) || format.is_negative(x) {
-        return (format.canonical_nan(), INVALID);
-    }
-    (nearest_root(format, x), OK)
+/// The canonical NaN for operands of which one is a NaN: invalid where one
+/// signals (6.2, 7.2).
+fn nan_of(format: Format, operands: &[u64]) -> (u64, Flags) {
+    let signals = operands.iter().any(|operand| format.is_signalling(*operand));
+    (format.canonical_nan(), if signals { Flags::INVALID } else { Flags::NONE })
 }
 
-pub fn floor(format: Format, x: u64) -> (u64, Status) {
+pub fn sqrt(format: Format, x: u64) -> (u64, Flags) {
+    if format.is_nan(x) {
+        return nan_of(format, &[x]);
+    }
+    if format.is_zero(x) || x == format.infinity() {
+        return (x, Flags::NONE);
+    }
+    if format.is_negative(x) {
+        return (format.canonical_nan(), Flags::INVALID);
+    }
+    nearest_root(format, x)
+}
+
+pub fn floor(format: Format, x: u64) -> (u64, Flags) {
     // Below zero the largest integer not above is the one away from zero.
     to_integer(format, x, format.is_negative(x))
 }
 
-pub fn trunc(format: Format, x: u64) -> (u64, Status) {
+pub fn trunc(format: Format, x: u64) -> (u64, Flags) {
     to_integer(format, x, false)
 }
 
 /// The integer next to x, away from zero or toward it, with the sign of x. It
-/// is INEXACT where a finite x is no integer; a NaN of either sort is OK.
-fn to_integer(format: Format, x: u64, away: bool) -> (u64, Status) {
+/// is inexact where a finite x is no integer.
+fn to_integer(format: Format, x: u64, away: bool) -> (u64, Flags) {
     if format.is_nan(x) {
-        return (format.canonical_nan(), OK);
+        return nan_of(format, &[x]);
     }
     if format.is_infinite(x) {
-        return (x, OK);
+        return (x, Flags::NONE);
     }
     let units = format.units(x);
     let whole = units.shr(format.unit_shift());
     let back = whole.shl(format.unit_shift());
     if back == units {
-        return (x, OK);
+        return (x, Flags::NONE);
     }
     let units = match away {
         true => whole.add(&Big::from(1)).shl(format.unit_shift()),
         false => back,
     };
-    (format.sign(x) | exact(format, &units), INEXACT)
+    (format.sign(x) | exact(format, &units), Flags::INEXACT)
 }
 
-pub fn scalbn(format: Format, x: u64, n: i32) -> u64 {
+pub fn scalbn(format: Format, x: u64, n: i32) -> (u64, Flags) {
     if format.is_nan(x) {
-        return format.canonical_nan();
+        return nan_of(format, &[x]);
     }
     if format.is_infinite(x) || format.is_zero(x) {
-        return x;
+        return (x, Flags::NONE);
     }
     // A nonzero finite magnitude is at least one unit and below 2^2098 units.
     // Past 2200 either way the answer no longer depends on n, so the exact
     // value is kept to a size that can be written down.
     let n = n.clamp(-2200, 2200);
-    let magnitude = match n >= 0 {
-        true => nearest(format, &format.scaled_units(x, n as u32), 0),
-        false => nearest(format, &format.units(x), n.unsigned_abs()),
+    let (magnitude, flags) = match n >= 0 {
+        true => nearest_with_flags(format, &format.scaled_units(x, n as u32), 0),
+        false => nearest_with_flags(format, &format.units(x), n.unsigned_abs()),
     };
-    format.sign(x) | magnitude
+    (format.sign(x) | magnitude, flags)
 }
 
+/// The value of fma alone, for tools/compare.
+#[allow(dead_code)]
 pub fn fma(format: Format, x: u64, y: u64, z: u64) -> u64 {
-    let nan = format.canonical_nan();
+    fma_with_flags(format, [x, y, z]).0
+}
+
+pub fn fma_with_flags(format: Format, [x, y, z]: [u64; 3]) -> (u64, Flags) {
+    let invalid = (format.canonical_nan(), Flags::INVALID);
+    let is_infinite = format.is_infinite(x) || format.is_infinite(y);
+    let is_zero = format.is_zero(x) || format.is_zero(y);
+    // Invalid also where z is a quiet NaN, which 7.2 leaves open.
+    if is_infinite && is_zero {
+        return invalid;
+    }
     if [x, y, z].iter().any(|operand| format.is_nan(*operand)) {
-        return nan;
+        return nan_of(format, &[x, y, z]);
     }
     let product_sign = format.sign(x) ^ format.sign(y);
-    if format.is_infinite(x) || format.is_infinite(y) {
-        let no_product = format.is_zero(x) || format.is_zero(y);
+    if is_infinite {
         let no_sum = format.is_infinite(z) && format.sign(z) != product_sign;
-        return if no_product || no_sum { nan } else { product_sign | format.infinity() };
+        return if no_sum { invalid } else { (product_sign | format.infinity(), Flags::NONE) };
     }
     if format.is_infinite(z) {
-        return z;
+        return (z, Flags::NONE);
     }
-    if format.is_zero(x) || format.is_zero(y) {
+    if is_zero {
         // Two zeros of one sign keep it, of two signs give +0.
-        return if format.is_zero(z) { product_sign & z } else { z };
+        return (if format.is_zero(z) { product_sign & z } else { z }, Flags::NONE);
     }
     // The product of two counts of units is a count of squared units, which
     // are 2^unit_shift times smaller; z is brought to the same measure.
@@ -123,9 +166,10 @@ pub fn fma(format: Format, x: u64, y: u64, z: u64) -> u64 {
     let addend = format.scaled_units(z, format.unit_shift());
     let (sign, sum) = signed_sum((product_sign, product), (format.sign(z), addend));
     if sum.is_zero() {
-        return 0;
+        return (0, Flags::NONE);
     }
-    sign | nearest(format, &sum, format.unit_shift())
+    let (magnitude, flags) = nearest_with_flags(format, &sum, format.unit_shift());
+    (sign | magnitude, flags)
 }
 
 /// The sum of two numbers, each a sign and a magnitude.

@@ -8,7 +8,7 @@ use crate::operations::{Field, Flags, Form, Operation, Task};
 /// The number of the refusal of an attribute that there is not.
 const NO_ATTRIBUTE: u32 = 10;
 
-/// The whole answer of a line that tells flags.
+/// The whole answer of a line under an attribute.
 pub fn judge(operation: &Operation, operands: &[Field]) -> Vec<Field> {
     let numbered = |number, (value, flags)| {
         vec![Field::Unsigned(number), Field::Word(value), Field::Flags(flags)]
@@ -21,19 +21,17 @@ pub fn judge(operation: &Operation, operands: &[Field]) -> Vec<Field> {
                 None => numbered(NO_ATTRIBUTE, (0, Flags::NONE)),
             }
         }
-        (Form::Flags, [Field::Word(x)]) => {
-            let away = operation.task == Task::Floor && operation.format.is_negative(*x);
-            let (value, flags) = to_integer(operation.format, *x, away);
-            vec![Field::Word(value), Field::Flags(flags)]
-        }
         _ => unreachable!("the reader admits only the operands of the table"),
     }
 }
 
-fn under(operation: &Operation, attribute: Attribute, operands: &[Field]) -> (u64, Flags) {
+/// Value and flags. floor and trunc have attributes of their own.
+pub fn under(operation: &Operation, attribute: Attribute, operands: &[Field]) -> (u64, Flags) {
     let format = operation.format;
     match (operation.task, operands) {
         (Task::Sqrt, [Field::Word(x)]) => sqrt(format, attribute, *x),
+        (Task::Floor, [Field::Word(x)]) => to_integer(format, *x, format.is_negative(*x)),
+        (Task::Trunc, [Field::Word(x)]) => to_integer(format, *x, false),
         (Task::Scalbn, [Field::Word(x), Field::Signed(n)]) => scalbn(format, attribute, *x, *n),
         (Task::Fma, [Field::Word(x), Field::Word(y), Field::Word(z)]) => {
             fma(format, attribute, [*x, *y, *z])

@@ -1,10 +1,10 @@
-// The requests of the names with an attribute or flags, by kinds, and the printing of them.
+// The requests of the names whose answer has flags, by kinds, and the printing of them.
 
 use crate::answers::judge;
 use crate::draws_rounded::FMA_KINDS;
 use crate::draws_rounded_single::{INTEGER_KINDS, ROOT_KINDS, SCALING_KINDS};
 use crate::format::Format;
-use crate::forms::forms;
+use crate::forms::flagged;
 use crate::grids::small_grid;
 use crate::lines::{write_fields, write_request};
 use crate::operations::{Field, Form, Operation, Task};
@@ -52,7 +52,7 @@ pub struct Drawing {
 
 impl Drawing {
     pub fn new(operation: &'static Operation, seed: u64) -> Drawing {
-        let place = forms().iter().position(|one| one.name == operation.name).unwrap_or(0);
+        let place = flagged().position(|one| one.name == operation.name).unwrap_or(0);
         let random = Random::new(seed, 100 + place as u64);
         // Each name begins with another kind, so that a short run shows all.
         let turn = place * 5;
@@ -158,7 +158,7 @@ fn with_number(number: Option<u32>, operands: Vec<Field>) -> Vec<Field> {
 
 /// The names that are wanted, none with a number of its own.
 pub fn choices(of: impl Fn(&Operation) -> bool) -> Vec<Choice> {
-    forms().iter().filter(|form| of(form)).map(|form| (form, None)).collect()
+    flagged().filter(|one| of(one)).map(|one| (one, None)).collect()
 }
 
 /// The grid of each name and `count` drawn lines, or requests alone.
@@ -172,9 +172,9 @@ pub fn print(
     let what = if answers { "no request twice" } else { "requests alone" };
     writeln!(
         out,
-        "# seed {seed}, count {count}; made by tools/plain (cases --flags): for each operation \
-         and attribute a small grid, then {count} drawn cases of its kinds in turn, which are \
-         counted at the end; {what}"
+        "# seed {seed}, count {count}; made by tools/plain (cases --flags): for each name \
+         whose answer has flags a small grid, then {count} drawn cases of its kinds in turn, \
+         which are counted at the end; {what}"
     )?;
     let mut tally = Tally::new();
     for (operation, number) in chosen {

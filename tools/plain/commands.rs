@@ -2,8 +2,9 @@
 
 use crate::answers::judge;
 use crate::forms::forms;
-use crate::lines::{read_line, write_fields, write_request, Line};
-use crate::operations::{Field, Operation, OPERATIONS};
+use crate::lines::{push_flags, read_line, write_fields, write_request, Line};
+use crate::operations::{Field, Flags, Operation, OPERATIONS};
+use std::collections::BTreeMap;
 use std::fs::File;
 use std::io::{self, BufRead, BufReader, Write};
 
@@ -73,13 +74,15 @@ struct Count {
 struct Counts {
     each: Vec<Count>,
     malformed: usize,
+    /// How often each set of flags is right.
+    flags: BTreeMap<u8, usize>,
 }
 
 impl Counts {
     fn new() -> Counts {
         let all = OPERATIONS.iter().chain(forms());
         let each = all.map(|operation| Count { operation, claims: 0, disagreements: 0 });
-        Counts { each: each.collect(), malformed: 0 }
+        Counts { each: each.collect(), malformed: 0, flags: BTreeMap::new() }
     }
 
     fn of(&mut self, operation: &'static Operation) -> &mut Count {
@@ -105,6 +108,19 @@ impl Counts {
         }
         Ok((all_claims, all_found))
     }
+
+    fn write_flags(&self, out: &mut dyn Write) -> io::Result<()> {
+        let mut text = String::new();
+        for (flags, count) in &self.flags {
+            text.push_str(if text.is_empty() { "flags" } else { "," });
+            text.push_str(&format!(" {count} "));
+            push_flags(&mut text, Flags(*flags));
+        }
+        match text.is_empty() {
+            true => Ok(()),
+            false => writeln!(out, "{text}"),
+        }
+    }
 }
 
 /// Holds every claim against the judge; tells whether nothing was found.
@@ -119,6 +135,7 @@ pub fn check(path: &str, out: &mut dyn Write) -> Result<bool, Trouble> {
         Err(expected) => Ok(counts.malformed(path, number, &expected)),
     })?;
     let (claims, found) = counts.write(out)?;
+    counts.write_flags(out)?;
     let malformed = counts.malformed;
     writeln!(out, "total {claims} claims, {found} disagreements, {malformed} malformed lines")?;
     if claims == 0 {
@@ -138,8 +155,11 @@ fn check_line(
     let count = counts.of(operation);
     count.claims += 1;
     let judged = judge(operation, &line.operands);
+    count.disagreements += (judged != claim) as usize;
+    if let Some(Field::Flags(flags)) = judged.last() {
+        *counts.flags.entry(flags.0).or_insert(0) += 1;
+    }
     if judged != claim {
-        count.disagreements += 1;
         let request = write_request(operation, &line.operands);
         let (own, other) = (write_fields(operation, &judged), write_fields(operation, claim));
         writeln!(out, "{path}:{number}: disagreement: {}", cut(&request, 0))?;

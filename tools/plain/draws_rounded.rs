@@ -8,9 +8,11 @@ use crate::random::Random;
 /// A kind of drawn operands: its name, and how one is drawn.
 pub type Drawn<T> = (&'static str, fn(Format, &mut Random) -> T);
 
-pub const FMA_KINDS: [Drawn<[u64; 3]>; 16] = [
+pub const FMA_KINDS: [Drawn<[u64; 3]>; 18] = [
     ("special operands", specials),
+    ("a NaN in each place", nan_in_place),
     ("about the least normal number", least_normal),
+    ("tiny before rounding and not after", tiny_before),
     ("about the largest number", largest),
     ("about half and quarter of the smallest unit", half_unit),
     ("exact subnormal results", exact_subnormal),
@@ -50,6 +52,22 @@ fn specials(format: Format, random: &mut Random) -> [u64; 3] {
         1 => [infinity(random), finite(format, random), infinity(random)],
         _ => [special(format, random), special(format, random), special(format, random)],
     }
+}
+
+/// A NaN, quiet or signalling, at one place, or at two of them; a number, a
+/// zero or an infinity at the others.
+fn nan_in_place(format: Format, random: &mut Random) -> [u64; 3] {
+    let nan = |random: &mut Random| {
+        let class = if random.coin() { QUIET } else { SIGNALLING };
+        of_class(format, class, random)
+    };
+    let class = |random: &mut Random| of_class(format, random.below(QUIET as u64) as usize, random);
+    let mut operands = [class(random), class(random), class(random)];
+    operands[random.below(3) as usize] = nan(random);
+    if random.below(4) == 0 {
+        operands[random.below(3) as usize] = nan(random);
+    }
+    operands
 }
 
 /// Two factors of first * second * 2^sum, whose product has this sign.
@@ -127,6 +145,31 @@ fn least_normal(format: Format, random: &mut Random) -> [u64; 3] {
     let eighths = if random.coin() { random.between(-5, 1) } else { random.between(-12, 12) };
     let place = lowest(format) - 3;
     about(format, random, format.smallest_normal(), (steps, eighths as i64), place)
+}
+
+/// Below 2^emin by a quarter of the smallest unit or less: to nearest, with no
+/// least exponent, that is 2^emin. By a power of two of any size, by digits of
+/// their own, or as near below the quarter as two factors reach.
+fn tiny_before(format: Format, random: &mut Random) -> [u64; 3] {
+    let (digits, place) = (format.fraction_bits, lowest(format) - 2);
+    let [x, y] = match random.below(4) {
+        0 => split(format, random, true, (1, 1), place),
+        1 => {
+            let down = random.below(2 * digits as u64) as i32;
+            split(format, random, true, (1, 1), place - down)
+        }
+        2 => {
+            let factors = (significand(format, random), significand(format, random));
+            split(format, random, true, factors, place - 2 * digits as i32 - 2)
+        }
+        _ => {
+            let power = random.between(1, digits as i32) as u32;
+            let factors = ((1 << power) + 1, (1 << power) - 1);
+            split(format, random, true, factors, place - 2 * power as i32)
+        }
+    };
+    let flip = signed(format, random.coin(), 0);
+    [x ^ flip, y, format.smallest_normal() ^ flip]
 }
 
 /// Eighths of a gap around the largest finite number and the next above.

@@ -1,4 +1,4 @@
-// The names that stand with an attribute or with flags, as sqrt64.up and floor16.flags.
+// The names that stand with an attribute, as sqrt64.up and fma16.3, and all whose answer has flags.
 
 use crate::attributes::ATTRIBUTES;
 use crate::format::{Format, WIDTH_16, WIDTH_32, WIDTH_64};
@@ -14,9 +14,7 @@ const ROUNDED: [(&str, Task, &str); 3] = [
     ("scalbn", Task::Scalbn, "X N -> NUMBER R FLAGS"),
 ];
 
-const INTEGERS: [(&str, Task); 2] = [("floor", Task::Floor), ("trunc", Task::Trunc)];
-
-/// Every operation with every attribute, then with flags, at each width.
+/// Every operation that rounds with every attribute, at each width.
 pub fn forms() -> &'static [Operation] {
     static FORMS: OnceLock<Vec<Operation>> = OnceLock::new();
     FORMS.get_or_init(|| {
@@ -27,9 +25,6 @@ pub fn forms() -> &'static [Operation] {
                     all.push(entry(name, task, format, Form::Attribute(attribute), word, shape));
                 }
                 all.push(entry(name, task, format, Form::Numbered, NUMBER, shape));
-            }
-            for (name, task) in INTEGERS {
-                all.push(entry(name, task, format, Form::Flags, "flags", "X -> R FLAGS"));
             }
         }
         all
@@ -47,6 +42,11 @@ fn entry(
     // The table lasts as long as the program, and so may its names.
     let name = String::leak(format!("{stem}{}.{word}", format.width));
     Operation { name, task, format, form, shape }
+}
+
+/// Every name whose answer has flags: without an attribute, then with one.
+pub fn flagged() -> impl Iterator<Item = &'static Operation> {
+    OPERATIONS.iter().filter(|one| one.tells_flags()).chain(forms())
 }
 
 impl Operation {
@@ -79,19 +79,14 @@ pub fn expected_names(name: &str) -> String {
     let names: Vec<&str> = of_stem(stem).map(|form| form.name).collect();
     let plain = find(stem).map(|operation| operation.name);
     match (plain, &names[..]) {
-        (None, []) => {
-            let names: Vec<&str> = OPERATIONS.iter().map(|one| one.name).collect();
-            format!(
-                "{}, or with 64, 32 or 16 sqrt, fma or scalbn and an attribute as sqrt16.up, \
-                 floor or trunc as floor16.flags",
-                names.join(" ")
-            )
-        }
-        (Some(plain), []) => format!("{plain} alone, which takes no attribute and tells no flags"),
-        (_, [only]) => only.to_string(),
-        (_, [words @ .., number]) => format!(
-            "{}, or {number} with a decimal number from 0 to 4294967295 for NUMBER",
+        (Some(plain), [words @ .., number]) => format!(
+            "{plain} {}, or {number} with a decimal number from 0 to 4294967295 for NUMBER",
             words.join(" ")
         ),
+        (Some(plain), []) => format!("{plain} alone, which takes no attribute"),
+        (None, _) => {
+            let names: Vec<&str> = OPERATIONS.iter().map(|one| one.name).collect();
+            format!("{}, or sqrt, fma or scalbn with an attribute as sqrt16.up", names.join(" "))
+        }
     }
 }

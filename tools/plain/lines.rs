@@ -2,8 +2,7 @@
 
 use crate::format::Format;
 use crate::forms::{expected_names, find_form};
-use crate::operations::{find, Field, Flags, Form, Kind, Operation, Status};
-use crate::operations::{FLAG_WORDS, STATUS_WORDS};
+use crate::operations::{find, Field, Flags, Form, Kind, Operation, FLAGS};
 
 /// One request, with the text after the arrow if the line has one. That text
 /// is read only when it is asked for: who answers requests ignores claims.
@@ -101,8 +100,7 @@ fn read_field(kind: Kind, format: Format, token: &str) -> Option<Field> {
                 token.split(',').map(|word| read_word(format, word)).collect();
             words.map(Field::Words)
         }
-        Kind::Status => Some(Field::Status(Status(read_raised(&STATUS_WORDS, token)?))),
-        Kind::Flags => Some(Field::Flags(Flags(read_raised(&FLAG_WORDS, token)?))),
+        Kind::Flags => read_flags(token).map(Field::Flags),
     }
 }
 
@@ -114,15 +112,15 @@ fn read_word(format: Format, token: &str) -> Option<u64> {
     u64::from_str_radix(token, 16).ok()
 }
 
-/// One bit for each of the words, which stand once and in their order.
-fn read_raised(words: &[&str], token: &str) -> Option<u8> {
+/// The flags of words that stand once and in their order.
+fn read_flags(token: &str) -> Option<Flags> {
     if token == "OK" {
-        return Some(0);
+        return Some(Flags::NONE);
     }
-    let (mut raised, mut next) = (0, 0);
+    let (mut raised, mut next) = (Flags::NONE, 0);
     for part in token.split('+') {
-        let place = next + words[next..].iter().position(|word| *word == part)?;
-        raised |= 1 << place;
+        let place = next + FLAGS[next..].iter().position(|(_, word)| *word == part)?;
+        raised = raised.and(FLAGS[place].0);
         next = place + 1;
     }
     Some(raised)
@@ -135,13 +133,11 @@ fn describe(kind: Kind, format: Format) -> String {
         Kind::Signed => "a decimal number from -2147483648 to 2147483647".to_string(),
         Kind::Unsigned => "a decimal number from 0 to 4294967295".to_string(),
         Kind::Words => format!("words of {digits} lower-case hex digits joined by commas, or -"),
-        Kind::Status => describe_raised(&STATUS_WORDS),
-        Kind::Flags => describe_raised(&FLAG_WORDS),
+        Kind::Flags => {
+            let words = FLAGS.map(|(_, word)| word).join(", ");
+            format!("OK or words of {words} joined by +")
+        }
     }
-}
-
-fn describe_raised(words: &[&str]) -> String {
-    format!("OK or words of {} joined by +", words.join(", "))
 }
 
 /// A token as an error message shows it, cut where a list would fill the screen.
@@ -194,8 +190,7 @@ fn push_field(text: &mut String, format: Format, field: &Field) {
                 push_word(text, format, *word);
             }
         }
-        Field::Status(status) => push_raised(text, &STATUS_WORDS, status.0),
-        Field::Flags(flags) => push_raised(text, &FLAG_WORDS, flags.0),
+        Field::Flags(flags) => push_flags(text, *flags),
     }
 }
 
@@ -205,16 +200,14 @@ fn push_word(text: &mut String, format: Format, word: u64) {
     }
 }
 
-fn push_raised(text: &mut String, words: &[&str], raised: u8) {
-    if raised == 0 {
+pub fn push_flags(text: &mut String, flags: Flags) {
+    if flags == Flags::NONE {
         text.push_str("OK");
     }
     let mut before = "";
-    for (place, word) in words.iter().enumerate() {
-        if raised >> place & 1 == 1 {
-            text.push_str(before);
-            text.push_str(word);
-            before = "+";
-        }
+    for (_, word) in FLAGS.iter().filter(|(flag, _)| flags.has(*flag)) {
+        text.push_str(before);
+        text.push_str(word);
+        before = "+";
     }
 }

@@ -14,6 +14,7 @@ mod draws_single;
 mod format;
 mod forms;
 mod grids;
+mod library;
 mod lines;
 mod operands;
 mod operations;
@@ -35,13 +36,13 @@ plain-program: answers and checks the operations by exact whole numbers
   cases --seed N --count K [--operation OP]
                                print boundary cases with their answers
   cases --flags [--requests] --seed N --count K [--operation OP]
-                               the same under every attribute, and with flags
+                               cases by kinds for all that answers flags, with
+                               and without an attribute
   cases --flags [--requests] --all --operation OP
                                all patterns of 16 bits
   witness --seed N --count K   hold the judge against the C library
 
-Each command has --help. Lines are those of docs/LINES.md, and those with an
-attribute or flags, which answer --help tells.
+Each command has --help. Lines are those of docs/LINES.md.
 Exit status: 0 all well, 1 something found, 2 bad usage or unreadable file.
 ";
 
@@ -51,19 +52,20 @@ answer FILE|-
 Writes every request line of FILE (- is standard input) with its answer.
 A claim after -> is passed over, and so are comments and empty lines.
 A malformed line is reported on standard error as FILE:LINE: error: ...
-Beside the operations of docs/LINES.md it answers, with 64, 32 or 16 for W:
+It answers all operations of docs/LINES.md, with 64, 32 or 16 for W:
 
-  sqrtW.A X         -> NUMBER R FLAGS
-  fmaW.A X Y Z      -> NUMBER R FLAGS
-  scalbnW.A X N     -> NUMBER R FLAGS
-  floorW.flags X    -> R FLAGS
-  truncW.flags X    -> R FLAGS
+  sqrtW X           -> R FLAGS        sqrtW.A X         -> NUMBER R FLAGS
+  fmaW X Y Z        -> R FLAGS        fmaW.A X Y Z      -> NUMBER R FLAGS
+  scalbnW X N       -> R FLAGS        scalbnW.A X N     -> NUMBER R FLAGS
+  floorW X          -> R FLAGS        truncW X          -> R FLAGS
 
+and fmod, remquo, reduce and list, which have no flags. Without an attribute a
+result is rounded to nearest even, and worked out in two ways that must agree.
 A is the rounding attribute: even, zero, down, up or away, or its number, 0 to
 4 in this order. Under any other number NUMBER is 10, R zero and FLAGS OK; else
 NUMBER is 0. FLAGS is OK, or the flags raised joined by +, in this order:
 INVALID, DIVBYZERO, OVERFLOW, UNDERFLOW, INEXACT. Tininess is judged after
-rounding. A word has four hex digits at 16.
+rounding.
 Exit status: 0, or 1 if a line was malformed, or 2 for bad usage.
 ";
 
@@ -72,9 +74,10 @@ check FILE|-
 
 Checks every claim of FILE (- is standard input) and prints each disagreement
 with its line number and both answers, then counts for each operation without
-an attribute, and for each name with an attribute or flags that had claims; an
-attribute that is a number is counted under NUMBER, as in sqrt64.NUMBER. A
-request without a claim counts as malformed. Answers are compared bit for bit.
+an attribute, and for each name with an attribute that had claims; an attribute
+that is a number is counted under NUMBER, as in sqrt64.NUMBER. The last line
+but one counts the claims by the flags in the right answers. A request without
+a claim counts as malformed. Answers are compared bit for bit.
 Exit status: 0 if every claim is right and there is one, or 1 for a
 disagreement, a malformed line or no claim at all, or 2 for bad usage.
 ";
@@ -84,25 +87,26 @@ cases --seed N --count K [--operation OP]
 cases --flags [--requests] --seed N --count K [--operation OP]
 cases --flags [--requests] --all --operation OP
 
-Prints request lines with answers for every operation, or for OP alone: first
-a grid (every pair of operand classes, for fma in each two places and further
-triples as far as K reaches; the thresholds of scalbn; both sides of every
-refusal), then K drawn boundary cases. So each operation has at least K lines.
-No request comes twice. The same seed and count give the same lines.
-N is a decimal number below 2^64, K at least 1.
+Prints request lines with answers for every operation of 64 and 32 bits without
+an attribute, or for OP alone: first a grid (every pair of operand classes, for
+fma in each two places and further triples as far as K reaches; the thresholds
+of scalbn; both sides of every refusal), then K drawn boundary cases. So each
+operation has at least K lines. No request comes twice. The same seed and count
+give the same lines. N is a decimal number below 2^64, K at least 1.
 
-  --flags     the names with an attribute or flags in place of those without:
-              for each a small grid, then K drawn cases from its kinds in turn.
-              Comments at the end name the kinds and count their lines. For
-              sqrt, fma and scalbn at each width follow nine lines with the
-              attribute as a number, four of them refused. OP is one name, as
-              sqrt64.up, sqrt64.3 or floor16.flags, or what stands before the
-              point, as sqrt64. There are fewer than K where the kinds have no
-              more that was not there.
+  --flags     every name whose answer has flags: sqrt, fma, scalbn, floor and
+              trunc of 64, 32 and 16 bits, the first three under each attribute
+              too: for each a small grid, then K drawn cases from its kinds in
+              turn. Comments at the end name the kinds and count their lines.
+              For sqrt, fma and scalbn at each width there are nine lines with
+              the attribute as a number, four of them refused. OP is one name,
+              as fma64, sqrt64.up or sqrt64.3, or sqrt64.A for all attributes.
+              There are fewer than K where the kinds have no more that was not
+              there.
   --requests  requests without answers; one may come twice, and none is kept
-              in mind, so K may be any number
+              in mind, so K may be any number: a million take a second or two
   --all       all 65,536 patterns; OP is a name of sqrt16, floor16 or trunc16,
-              or one of these for all its attributes
+              or sqrt16.A
 Exit status: 0, or 2 for bad usage.
 ";
 
@@ -110,10 +114,15 @@ const WITNESS_HELP: &str = "\
 witness --seed N --count K
 
 Holds K requests for each operation against a second computation: the C
-library's functions (values only, any two NaNs equal, remquo's quotient by
-sign and modulo 8), for the reduction doubling step by step, for the list call
-the C library in each place, for each name under even or with flags a search
-among the neighbours (values only). Also checks the program's own division.
+library's functions (any two NaNs equal, remquo's quotient by sign and modulo
+8, and flags by fenv.h), for the reduction doubling step by step, for the list
+call the C library in each place, for each name under even the search among the
+neighbours; at 16 bits the two ways to each answer alone. What answers flags
+gets K requests more, from its kinds in turn. Also checks the program's own
+division.
+Flags are left out where the C library is free: floor and trunc go by rint;
+where the processor judges tininess before rounding, underflow of a result that
+is the least normal number; 0 times infinity plus a quiet NaN.
 N is a decimal number below 2^64, K at least 1.
 Exit status: 0, or 1 for a disagreement, or 2 for bad usage.
 ";

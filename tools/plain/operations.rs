@@ -1,7 +1,7 @@
 // The operations by name, with the kinds of their operands and answers.
 
 use crate::attributes::Attribute;
-use crate::format::{Format, WIDTH_32, WIDTH_64};
+use crate::format::{Format, WIDTH_16, WIDTH_32, WIDTH_64};
 
 #[derive(Clone, Copy, Debug, PartialEq, Eq)]
 pub enum Task {
@@ -23,7 +23,6 @@ pub enum Kind {
     Signed,
     Unsigned,
     Words,
-    Status,
     Flags,
 }
 
@@ -33,34 +32,37 @@ pub enum Field {
     Signed(i32),
     Unsigned(u32),
     Words(Vec<u64>),
-    Status(Status),
     Flags(Flags),
 }
 
-/// One bit for each word of STATUS_WORDS, the first word lowest.
-#[derive(Clone, Copy, Debug, PartialEq, Eq)]
-pub struct Status(pub u8);
-
-pub const STATUS_WORDS: [&str; 2] = ["INVALID", "INEXACT"];
-pub const OK: Status = Status(0);
-pub const INVALID: Status = Status(1);
-pub const INEXACT: Status = Status(2);
-
-/// One bit for each word of FLAG_WORDS, the first word lowest.
+/// The exceptions of IEEE 754, clause 7, one bit for each: those of libm, which
+/// the C face has too.
 #[derive(Clone, Copy, Debug, PartialEq, Eq)]
 pub struct Flags(pub u8);
 
-pub const FLAG_WORDS: [&str; 5] = ["INVALID", "DIVBYZERO", "OVERFLOW", "UNDERFLOW", "INEXACT"];
+/// The flags in the order of a line.
+pub const FLAGS: [(Flags, &str); 5] = [
+    (Flags::INVALID, "INVALID"),
+    (Flags::DIVBYZERO, "DIVBYZERO"),
+    (Flags::OVERFLOW, "OVERFLOW"),
+    (Flags::UNDERFLOW, "UNDERFLOW"),
+    (Flags::INEXACT, "INEXACT"),
+];
 
 impl Flags {
     pub const NONE: Flags = Flags(0);
     pub const INVALID: Flags = Flags(1);
-    pub const OVERFLOW: Flags = Flags(4);
-    pub const UNDERFLOW: Flags = Flags(8);
-    pub const INEXACT: Flags = Flags(16);
+    pub const DIVBYZERO: Flags = Flags(4);
+    pub const OVERFLOW: Flags = Flags(8);
+    pub const UNDERFLOW: Flags = Flags(16);
+    pub const INEXACT: Flags = Flags(32);
 
     pub fn and(self, other: Flags) -> Flags {
         Flags(self.0 | other.0)
+    }
+
+    pub fn has(self, other: Flags) -> bool {
+        self.0 & other.0 != 0
     }
 }
 
@@ -71,7 +73,6 @@ pub enum Form {
     Attribute(Attribute),
     /// The number of the attribute is the first operand, written in the name.
     Numbered,
-    Flags,
 }
 
 pub struct Operation {
@@ -91,23 +92,29 @@ const fn operation(
     Operation { name, task, format, form: Form::Plain, shape }
 }
 
-pub static OPERATIONS: [Operation; 16] = [
-    operation("sqrt64", Task::Sqrt, WIDTH_64, "X -> R STATUS"),
-    operation("sqrt32", Task::Sqrt, WIDTH_32, "X -> R STATUS"),
-    operation("floor64", Task::Floor, WIDTH_64, "X -> R STATUS"),
-    operation("floor32", Task::Floor, WIDTH_32, "X -> R STATUS"),
-    operation("trunc64", Task::Trunc, WIDTH_64, "X -> R STATUS"),
-    operation("trunc32", Task::Trunc, WIDTH_32, "X -> R STATUS"),
-    operation("scalbn64", Task::Scalbn, WIDTH_64, "X N -> R"),
-    operation("scalbn32", Task::Scalbn, WIDTH_32, "X N -> R"),
-    operation("fma64", Task::Fma, WIDTH_64, "X Y Z -> R"),
-    operation("fma32", Task::Fma, WIDTH_32, "X Y Z -> R"),
+/// Width 16 stands last: it has no function, and the record of cases leaves it out.
+pub static OPERATIONS: [Operation; 21] = [
+    operation("sqrt64", Task::Sqrt, WIDTH_64, "X -> R FLAGS"),
+    operation("sqrt32", Task::Sqrt, WIDTH_32, "X -> R FLAGS"),
+    operation("floor64", Task::Floor, WIDTH_64, "X -> R FLAGS"),
+    operation("floor32", Task::Floor, WIDTH_32, "X -> R FLAGS"),
+    operation("trunc64", Task::Trunc, WIDTH_64, "X -> R FLAGS"),
+    operation("trunc32", Task::Trunc, WIDTH_32, "X -> R FLAGS"),
+    operation("scalbn64", Task::Scalbn, WIDTH_64, "X N -> R FLAGS"),
+    operation("scalbn32", Task::Scalbn, WIDTH_32, "X N -> R FLAGS"),
+    operation("fma64", Task::Fma, WIDTH_64, "X Y Z -> R FLAGS"),
+    operation("fma32", Task::Fma, WIDTH_32, "X Y Z -> R FLAGS"),
     operation("fmod64", Task::Fmod, WIDTH_64, "X Y -> R"),
     operation("fmod32", Task::Fmod, WIDTH_32, "X Y -> R"),
     operation("remquo64", Task::Remquo, WIDTH_64, "X Y -> R QUOTIENT"),
     operation("reduce64", Task::Reduce, WIDTH_64, "X SHIFT Y -> REFUSAL R"),
     operation("reduce32", Task::Reduce, WIDTH_32, "X SHIFT Y -> REFUSAL R"),
     operation("list64", Task::List, WIDTH_64, "OP INPUT OUTPUT -> REFUSAL OUTPUT"),
+    operation("sqrt16", Task::Sqrt, WIDTH_16, "X -> R FLAGS"),
+    operation("floor16", Task::Floor, WIDTH_16, "X -> R FLAGS"),
+    operation("trunc16", Task::Trunc, WIDTH_16, "X -> R FLAGS"),
+    operation("scalbn16", Task::Scalbn, WIDTH_16, "X N -> R FLAGS"),
+    operation("fma16", Task::Fma, WIDTH_16, "X Y Z -> R FLAGS"),
 ];
 
 pub fn find(name: &str) -> Option<&'static Operation> {
@@ -129,13 +136,18 @@ impl Operation {
 
     pub fn answer_kinds(&self) -> &'static [Kind] {
         match (self.form, self.task) {
-            (Form::Flags, _) => &[Kind::Word, Kind::Flags],
             (Form::Attribute(_) | Form::Numbered, _) => &[Kind::Unsigned, Kind::Word, Kind::Flags],
-            (_, Task::Sqrt | Task::Floor | Task::Trunc) => &[Kind::Word, Kind::Status],
-            (_, Task::Scalbn | Task::Fma | Task::Fmod) => &[Kind::Word],
+            (_, Task::Sqrt | Task::Floor | Task::Trunc | Task::Scalbn | Task::Fma) => {
+                &[Kind::Word, Kind::Flags]
+            }
+            (_, Task::Fmod) => &[Kind::Word],
             (_, Task::Remquo) => &[Kind::Word, Kind::Signed],
             (_, Task::Reduce) => &[Kind::Unsigned, Kind::Word],
             (_, Task::List) => &[Kind::Unsigned, Kind::Words],
         }
+    }
+
+    pub fn tells_flags(&self) -> bool {
+        self.answer_kinds().contains(&Kind::Flags)
     }
 }

@@ -1,7 +1,8 @@
 // The options of the commands that make requests, read and held to one another.
 
 use crate::cases_flags::{choices, Choice};
-use crate::forms::{find_form, of_stem};
+use crate::forms::find_form;
+use crate::lines::find_named;
 use crate::operations::{find, Form, Operation, Task, OPERATIONS};
 
 /// What a command is to make.
@@ -77,27 +78,26 @@ fn number(option: &str, value: &str) -> Result<u64, String> {
     read.ok_or_else(wrong)
 }
 
+/// One name without an attribute, or all of 64 and 32 bits.
 fn plain(operation: Option<&str>) -> Result<Vec<&'static Operation>, String> {
     let Some(name) = operation else {
-        return Ok(OPERATIONS.iter().collect());
+        return Ok(OPERATIONS.iter().filter(|one| one.format.width > 16).collect());
     };
-    let without = match find_form(name).is_some() || of_stem(name).next().is_some() {
-        true => " without --flags",
-        false => "",
-    };
+    let without = if find_form(name).is_some() { " without --flags" } else { "" };
     let found = find(name).ok_or_else(|| format!("no operation \"{name}\"{without}"));
     Ok(vec![found?])
 }
 
-/// One name with an attribute or flags, or all that begin with what is given.
+/// One name whose answer has flags, or a name under all attributes, or all.
 fn flagged(operation: Option<&str>) -> Result<Vec<Choice>, String> {
     let Some(name) = operation else {
         return Ok(choices(|_| true));
     };
-    if let Some(one) = find_form(name) {
+    if let Some(one) = find_named(name).filter(|(one, _)| one.tells_flags()) {
         return Ok(vec![one]);
     }
-    let found = choices(|form| form.stem() == name);
+    let stem = name.strip_suffix(".A").unwrap_or("");
+    let found = choices(|one| one.form != Form::Plain && one.stem() == stem);
     match found.is_empty() {
         true => Err(format!("no operation \"{name}\" with --flags")),
         false => Ok(found),

@@ -1,7 +1,8 @@
-// The nearest pattern to an exact value, found by a search among neighbours.
+// The nearest pattern to an exact value, found by a search among neighbours, and its flags.
 
 use crate::big::Big;
 use crate::format::Format;
+use crate::operations::Flags;
 use std::cmp::Ordering;
 
 /// The greatest finite magnitude that is not above the value. Magnitudes are
@@ -43,8 +44,26 @@ pub fn nearest(format: Format, value: &Big, shift: u32) -> u64 {
     choose(low, below.cmp(&above))
 }
 
-/// The magnitude nearest to the square root of a magnitude, ties to even.
-pub fn nearest_root(format: Format, magnitude: u64) -> u64 {
+/// The same, and what IEEE 754 raises for it (7.4 to 7.6).
+pub fn nearest_with_flags(format: Format, value: &Big, shift: u32) -> (u64, Flags) {
+    let result = nearest(format, value, shift);
+    if result == format.infinity() {
+        return (result, Flags::OVERFLOW.and(Flags::INEXACT));
+    }
+    if format.scaled_units(result, shift) == *value {
+        return (result, Flags::NONE);
+    }
+    // With no least exponent the digits just below 2^emin would be those that
+    // the format has just below twice that, so twice the value tells.
+    let turn = format.smallest_normal();
+    let is_tiny = result <= turn && nearest(format, &value.shl(1), shift) < 2 * turn;
+    let tiny = if is_tiny { Flags::UNDERFLOW } else { Flags::NONE };
+    (result, tiny.and(Flags::INEXACT))
+}
+
+/// The magnitude nearest to the square root of a magnitude that is not zero,
+/// ties to even. No root of 64, 32 or 16 bits is tiny or near overflow.
+pub fn nearest_root(format: Format, magnitude: u64) -> (u64, Flags) {
     // r units is the root of x units when r * r = x * 2^unit_shift.
     let square = format.scaled_units(magnitude, format.unit_shift());
     let low = greatest(format, |pattern| {
@@ -54,7 +73,9 @@ pub fn nearest_root(format: Format, magnitude: u64) -> u64 {
     // The root is past the midpoint (u + v) / 2 when four times its square is
     // past (u + v)^2. A root is far below overflow, so v is finite.
     let ends = format.units(low).add(&format.units(low + 1));
-    choose(low, square.shl(2).cmp(&ends.mul(&ends)))
+    let root = choose(low, square.shl(2).cmp(&ends.mul(&ends)));
+    let units = format.units(root);
+    (root, if units.mul(&units) == square { Flags::NONE } else { Flags::INEXACT })
 }
 
 /// The pattern of a magnitude known to be a number of the format.

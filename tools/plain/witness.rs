@@ -1,78 +1,20 @@
-// The judge held against the C library; the only file with floating-point numbers.
+// The judge held against the C library, and against other ways of its own.
 
-use crate::answers::{self, judge};
+use crate::answers::{by_search, judge};
 use crate::attributes::Attribute;
 use crate::big::Big;
 use crate::cases::Requests;
 use crate::cases_flags::Drawing;
+use crate::format::{Format, WIDTH_64};
 use crate::forms::forms;
+use crate::library::{self, Given};
 use crate::lines::{write_fields, write_request};
-use crate::operations::{Field, Form, Operation, Task, OPERATIONS};
+use crate::operations::{Field, Flags, Form, Operation, Task, OPERATIONS};
 use crate::random::Random;
 use std::io::{self, Write};
 use std::time::Instant;
 
-#[link(name = "m")]
-extern "C" {
-    fn sqrt(x: f64) -> f64;
-    fn sqrtf(x: f32) -> f32;
-    fn floor(x: f64) -> f64;
-    fn floorf(x: f32) -> f32;
-    fn trunc(x: f64) -> f64;
-    fn truncf(x: f32) -> f32;
-    fn scalbn(x: f64, n: i32) -> f64;
-    fn scalbnf(x: f32, n: i32) -> f32;
-    fn fma(x: f64, y: f64, z: f64) -> f64;
-    fn fmaf(x: f32, y: f32, z: f32) -> f32;
-    fn fmod(x: f64, y: f64) -> f64;
-    fn fmodf(x: f32, y: f32) -> f32;
-    fn remquo(x: f64, y: f64, quotient: *mut i32) -> f64;
-}
-
-fn double(pattern: u64) -> f64 {
-    f64::from_bits(pattern)
-}
-
-fn single(pattern: u64) -> f32 {
-    f32::from_bits(pattern as u32)
-}
-
-/// The value of the C library, and its quotient where it gives one.
-fn library_64(task: Task, words: &[u64], n: i32) -> Option<(u64, i32)> {
-    let mut quotient = 0;
-    // SAFETY: plain functions of numbers; remquo writes one int, which is lent.
-    let value = unsafe {
-        match (task, words) {
-            (Task::Sqrt, [x]) => sqrt(double(*x)),
-            (Task::Floor, [x]) => floor(double(*x)),
-            (Task::Trunc, [x]) => trunc(double(*x)),
-            (Task::Scalbn, [x]) => scalbn(double(*x), n),
-            (Task::Fma, [x, y, z]) => fma(double(*x), double(*y), double(*z)),
-            (Task::Fmod, [x, y]) => fmod(double(*x), double(*y)),
-            (Task::Remquo, [x, y]) => remquo(double(*x), double(*y), &mut quotient),
-            _ => return None,
-        }
-    };
-    Some((value.to_bits(), quotient))
-}
-
-fn library_32(task: Task, words: &[u64], n: i32) -> Option<(u64, i32)> {
-    // SAFETY: plain functions of numbers.
-    let value = unsafe {
-        match (task, words) {
-            (Task::Sqrt, [x]) => sqrtf(single(*x)),
-            (Task::Floor, [x]) => floorf(single(*x)),
-            (Task::Trunc, [x]) => truncf(single(*x)),
-            (Task::Scalbn, [x]) => scalbnf(single(*x), n),
-            (Task::Fma, [x, y, z]) => fmaf(single(*x), single(*y), single(*z)),
-            (Task::Fmod, [x, y]) => fmodf(single(*x), single(*y)),
-            _ => return None,
-        }
-    };
-    Some((value.to_bits() as u64, 0))
-}
-
-fn library(operation: &Operation, operands: &[Field]) -> Option<(u64, i32)> {
+fn by_library(operation: &Operation, operands: &[Field]) -> Option<Given> {
     let (mut words, mut power) = (Vec::with_capacity(3), 0);
     for field in operands {
         match field {
@@ -81,9 +23,27 @@ fn library(operation: &Operation, operands: &[Field]) -> Option<(u64, i32)> {
             _ => return None,
         }
     }
-    match operation.format.width {
-        64 => library_64(operation.task, &words, power),
-        _ => library_32(operation.task, &words, power),
+    library::given(operation.format, operation.task, &words, power)
+}
+
+/// The flags that the C library must raise as well as the judge.
+fn settled_flags(format: Format, operands: &[Field], value: u64, before: bool) -> Flags {
+    let magnitudes: Vec<u64> = operands
+        .iter()
+        .filter_map(|field| match field {
+            Field::Word(word) => Some(format.magnitude(*word)),
+            _ => None,
+        })
+        .collect();
+    let open = |x: u64, y: u64| x == 0 && y == format.infinity();
+    match magnitudes[..] {
+        // 7.2 leaves it open whether this is invalid.
+        [x, y, z] if (open(x, y) || open(y, x)) && format.is_nan(z) => Flags::NONE,
+        // Tininess judged before and after rounding differ at this value alone.
+        _ if before && format.magnitude(value) == format.smallest_normal() => {
+            Flags(!Flags::UNDERFLOW.0)
+        }
+        _ => Flags(u8::MAX),
     }
 }
 
@@ -124,39 +84,65 @@ fn list_by_library(number: u32, input: &[u64], output: &[u64]) -> (u32, Vec<u64>
         return (refusal, output.to_vec());
     }
     let task = [Task::Sqrt, Task::Floor, Task::Trunc][number as usize - 1];
-    let place = |x: &u64| library_64(task, &[*x], 0).map_or(0, |(value, _)| value);
+    let place = |x: &u64| library::given(WIDTH_64, task, &[*x], 0).map_or(0, |one| one.value);
     (0, input.iter().map(place).collect())
 }
 
-/// The value to nearest even, and the integer, by the search among neighbours.
-fn by_search(operation: &Operation, operands: &[Field]) -> Option<u64> {
-    use Field::{Signed, Word};
-    let format = operation.format;
-    match (operation.task, operands) {
-        (Task::Sqrt, [Word(x)]) => Some(answers::sqrt(format, *x).0),
-        (Task::Scalbn, [Word(x), Signed(n)]) => Some(answers::scalbn(format, *x, *n)),
-        (Task::Fma, [Word(x), Word(y), Word(z)]) => Some(answers::fma(format, *x, *y, *z)),
-        (Task::Floor, [Word(x)]) => Some(answers::floor(format, *x).0),
-        (Task::Trunc, [Word(x)]) => Some(answers::trunc(format, *x).0),
-        _ => None,
-    }
+/// Value and flags against the search. Bit for bit: both ways have the same
+/// rule for NaNs.
+fn search_differs(operation: &Operation, operands: &[Field], judged: &[Field]) -> Option<String> {
+    let (value, flags) = by_search(operation, operands);
+    let other = [Field::Word(value), Field::Flags(flags)];
+    let same = match judged {
+        [Field::Unsigned(0), rest @ ..] => rest == other,
+        _ => judged == other,
+    };
+    (!same).then(|| write_fields(operation, &other))
 }
 
-/// The value of a line that tells flags against the search. Bit for bit: both
-/// ways have the same rule for NaNs.
-fn search_differs(operation: &Operation, operands: &[Field], judged: &[Field]) -> Option<String> {
-    let other = by_search(operation, operands);
-    let same = match judged {
-        [Field::Unsigned(0), Field::Word(value), _] => other == Some(*value),
-        [Field::Word(value), _] => other == Some(*value),
-        _ => false,
+/// Value, and quotient or flags, against the C library.
+fn library_differs(
+    operation: &Operation,
+    operands: &[Field],
+    judged: &[Field],
+    before: bool,
+) -> Option<String> {
+    let format = operation.format;
+    let (Some(given), [Field::Word(value), rest @ ..]) = (by_library(operation, operands), judged)
+    else {
+        return Some("no second answer".to_string());
     };
-    (!same).then(|| other.map_or("no second answer".to_string(), |other| format!("{other:x}")))
+    let agreed = match rest {
+        // C leaves the quotient open where the value is a NaN.
+        [Field::Signed(own)] => format.is_nan(*value) || same_quotient(*own, given.quotient),
+        [Field::Flags(own)] => {
+            let settled = settled_flags(format, operands, *value, before);
+            (own.0 ^ given.flags.0) & settled.0 == 0
+        }
+        _ => true,
+    };
+    // Nor does C settle the bits of a NaN.
+    let same = agreed && format.same_value(*value, given.value);
+    let told = [Field::Word(given.value), Field::Flags(given.flags)];
+    let quotient = given.quotient;
+    (!same).then(|| format!("{} quotient {quotient}", write_fields(operation, &told)))
 }
 
 /// Nothing when both agree, else what the other side says.
-fn disagreement(operation: &Operation, operands: &[Field], judged: &[Field]) -> Option<String> {
+fn disagreement(
+    operation: &Operation,
+    operands: &[Field],
+    judged: &[Field],
+    before: bool,
+) -> Option<String> {
     let format = operation.format;
+    if operation.form != Form::Plain {
+        return search_differs(operation, operands, judged);
+    }
+    // No C library has these: the judge has held its two ways to each other.
+    if format.width == 16 {
+        return None;
+    }
     match (operands, judged) {
         ([Field::Word(x), Field::Unsigned(shift), Field::Word(y)], _) => {
             let (refusal, value) = reduce_by_doubling(format.width, *x, *shift, *y);
@@ -177,20 +163,7 @@ fn disagreement(operation: &Operation, operands: &[Field], judged: &[Field]) -> 
             let told = [Field::Unsigned(refusal), Field::Words(other)];
             (!same).then(|| write_fields(operation, &told))
         }
-        (_, [Field::Word(value), rest @ ..]) => {
-            let Some((other, quotient)) = library(operation, operands) else {
-                return Some("no second answer".to_string());
-            };
-            let agreed = match rest {
-                // C leaves the quotient open where the value is a NaN.
-                [Field::Signed(own)] => format.is_nan(*value) || same_quotient(*own, quotient),
-                _ => true,
-            };
-            // Nor does C settle the bits of a NaN.
-            let same = agreed && format.same_value(*value, other);
-            (!same).then(|| format!("value {other:x} quotient {quotient}"))
-        }
-        _ => Some("no second answer".to_string()),
+        _ => library_differs(operation, operands, judged, before),
     }
 }
 
@@ -214,33 +187,20 @@ fn division_holds(random: &mut Random) -> bool {
     })
 }
 
-/// The requests of an operation; where it tells flags, from its kinds in turn.
-fn requests(operation: &'static Operation, seed: u64) -> Box<dyn FnMut() -> Vec<Field>> {
-    if operation.form == Form::Plain {
-        let mut requests = Requests::new(operation, seed);
-        return Box::new(move || requests.next());
-    }
-    let mut drawing = Drawing::new(operation, seed);
-    Box::new(move || drawing.next().1)
-}
-
-fn run_operation(
+/// Holds requests against their second answers; tells how many disagree.
+fn run_requests(
     operation: &'static Operation,
-    seed: u64,
-    count: usize,
+    what: &str,
+    (count, before): (usize, bool),
+    mut next: impl FnMut() -> Vec<Field>,
     out: &mut dyn Write,
 ) -> io::Result<usize> {
     let start = Instant::now();
-    let mut next = requests(operation, seed);
     let mut disagreements = 0;
     for _ in 0..count {
         let operands = next();
         let judged = judge(operation, &operands);
-        let found = match operation.form {
-            Form::Plain => disagreement(operation, &operands, &judged),
-            _ => search_differs(operation, &operands, &judged),
-        };
-        if let Some(other) = found {
+        if let Some(other) = disagreement(operation, &operands, &judged, before) {
             disagreements += 1;
             let request = write_request(operation, &operands);
             let own = write_fields(operation, &judged);
@@ -249,22 +209,36 @@ fn run_operation(
     }
     let seconds = start.elapsed().as_secs();
     let name = operation.name;
-    writeln!(out, "{name} {count} requests, {disagreements} disagreements, {seconds} s")?;
+    writeln!(out, "{name}{what} {count} requests, {disagreements} disagreements, {seconds} s")?;
     out.flush()?;
     Ok(disagreements)
 }
 
 /// The number of disagreements over all operations and the division.
 pub fn run(seed: u64, count: usize, out: &mut dyn Write) -> io::Result<usize> {
-    writeln!(out, "seed {seed}, {count} requests for each operation")?;
+    let before = library::judges_before_rounding();
+    let tininess = if before { "before" } else { "after" };
+    writeln!(
+        out,
+        "seed {seed}, {count} requests for each operation; the processor judges tininess \
+         {tininess} rounding"
+    )?;
     let mut random = Random::new(seed, 0);
     let failed = (0..count).filter(|_| !division_holds(&mut random)).count();
     writeln!(out, "division {count} numbers, {failed} disagreements")?;
     let mut disagreements = failed;
     let even = Form::Attribute(Attribute::Even);
-    let is_searched = |form: &&Operation| form.form == even || form.form == Form::Flags;
-    for operation in OPERATIONS.iter().chain(forms().iter().filter(is_searched)) {
-        disagreements += run_operation(operation, seed, count, out)?;
+    for operation in OPERATIONS.iter().chain(forms().iter().filter(|form| form.form == even)) {
+        if operation.form == Form::Plain {
+            let mut requests = Requests::new(operation, seed);
+            let next = || requests.next();
+            disagreements += run_requests(operation, "", (count, before), next, out)?;
+        }
+        if operation.tells_flags() {
+            let mut drawing = Drawing::new(operation, seed);
+            let next = || drawing.next().1;
+            disagreements += run_requests(operation, " by kinds", (count, before), next, out)?;
+        }
     }
     writeln!(out, "total {disagreements} disagreements")?;
     Ok(disagreements)

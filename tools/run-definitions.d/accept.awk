@@ -30,9 +30,9 @@ function fault(text,    op, form, at, wrong, expected) {
 function fault_of_name(op,    stem, suffix) {
     if (op in known) return ""
     stem = stemOf(op)
-    if (stem == op || !(stem in suffixKindOf)) return "unknown operation " quoted(op) "; expected one of " names ", or sqrtW.A, fmaW.A, scalbnW.A, floorW.flags or truncW.flags with W 64, 32 or 16"
+    if (!(stem in known)) return "unknown operation " quoted(op) "; expected one of " names " " narrowNames ", or sqrtW.A, fmaW.A or scalbnW.A with W 64, 32 or 16"
+    if (!(stem in takesAttribute)) return "unknown operation " quoted(op) "; expected " stem ", which takes no attribute"
     suffix = suffixOf(op)
-    if (suffixKindOf[stem] == "flags") return suffix == "flags" ? "" : "unknown operation " quoted(op) "; expected " stem ".flags"
     if (suffix in numberOfAttribute || is_number(suffix, 4294967295)) return ""
     return "attribute " quoted(suffix) " of " quoted(op) " is none; expected even, zero, down, up, away or a decimal number from 0 to 4294967295"
 }
@@ -52,7 +52,6 @@ function fault_of_words(op, what, kinds, text, expected,    wanted, found, kind,
 function fault_of_word(kind, width, word) {
     if (kind == "word") return is_word(word, width / 4) ? "" : quoted(word) " is not " width / 4 " lower-case hex digits"
     if (kind == "words") return fault_of_places(word, width / 4)
-    if (kind == "status") return word in numberOfStatus ? "" : quoted(word) " is not a status: OK, INVALID, INEXACT or INVALID+INEXACT"
     if (kind == "flags") return word in numberOfFlags ? "" : quoted(word) " is not flags: OK, or some of INVALID, DIVBYZERO, OVERFLOW, UNDERFLOW and INEXACT in this order, joined by +"
     if (kind == "unsigned") return is_number(word, 4294967295) ? "" : quoted(word) " is not a decimal number from 0 to 4294967295"
     if (is_number(word, 2147483647)) return ""

@@ -20,18 +20,18 @@ pass == 1 { total += weight(); next }
     if (module == "" || work >= share * modules || (lineNumber in isDoubted) != forDoubted) open_module()
     work += weight()
     written++
-    if (form != base && mode == "claim" && !forDoubted) { add_to_group(); next }
+    if (with_flags(form) && mode == "claim" && !forDoubted) { add_to_group(); next }
     print module " " lineNumber " " lineNumber
     if (base == "list" && isLong) write_long_list()
     else if (base == "list") write_list()
-    else if (form != base && mode == "ask") ask_with_flags()
-    else declare("line" lineNumber, set_terms())
+    else if (with_flags(form) && mode == "ask") ask_with_flags()
+    else declare("line" lineNumber, set_terms(), definitionsOf[form])
 }
 END { if (module != "") close_module() }
 
 # what a line costs the checker, in ms or so; a module costs it 500 besides
 function weight() {
-    if (form == base) return (width == 64 ? 5 : 3) + 5 * afterCount
+    if (!with_flags(form)) return (width == 64 ? 5 : 3) + 5 * afterCount
     if (base == "floor" || base == "trunc") return width == 64 ? 5 : width == 32 ? 2 : 1
     return width == 64 ? 10 : width == 32 ? 4 : 2
 }
@@ -57,11 +57,11 @@ function open_module() {
     put("use lib.Dec.{eqb}\n")
     put("use lib.IntN.{ℤ, pos, negsuc}\n")
     put("use Rattle.ieee.specs.Format.{b64, b32, b16}\n")
-    put("use Rattle.ieee.specs.Flags.{wordOf}\n")
-    put("use Rattle.ieee.specs.Sqrt.{sqrtOf, sqrtStatus}\n")
-    put("use Rattle.ieee.specs.Whole.{floorOf, floorStatus, floorFlags, truncOf, truncStatus, truncFlags}\n")
-    put("use Rattle.ieee.specs.Scalbn.{scalbnOf}\n")
-    put("use Rattle.ieee.specs.Fma.{fmaOf}\n")
+    put("use Rattle.ieee.specs.Flags.{flagWord}\n")
+    put("use Rattle.ieee.specs.Sqrt.{sqrtOf, sqrtFlags}\n")
+    put("use Rattle.ieee.specs.Whole.{floorOf, floorFlags, truncOf, truncFlags}\n")
+    put("use Rattle.ieee.specs.Scalbn.{scalbnOf, scalbnFlags}\n")
+    put("use Rattle.ieee.specs.Fma.{fmaOf, fmaFlags}\n")
     put("use Rattle.ieee.specs.Rounded.{Rounded, sqrtRounded, fmaRounded, scalbnRounded}\n")
     put("use Rattle.ieee.specs.Fmod.{fmodOf}\n")
     put("use Rattle.ieee.specs.Remquo.{remquoOf, quotientOf}\n")
@@ -82,7 +82,7 @@ function close_module() {
 # the answer of a line with flags
 function put_told() {
     put("abbrev told : Rounded → List ℕ\n")
-    put("told r = r .number ∷ r .value ∷ wordOf (r .flags) ∷ []\n\n")
+    put("told r = r .number ∷ r .value ∷ flagWord (r .flags) ∷ []\n\n")
 }
 
 function put_shown() {
@@ -109,12 +109,7 @@ function put(text) { printf "%s", text > out }
 # the terms of a line, in term[], and what the line says of each, in said[]; how many there are
 function set_terms(    format) {
     format = " b" width
-    if (form != base) return set_terms_with_flags(format)
-    if (base == "sqrt" || base == "floor" || base == "trunc") {
-        term[1] = base "Of" format hex(1); said[1] = "0x" answer[1]
-        term[2] = base "Status" format hex(1); said[2] = numberOfStatus[answer[2]]
-        return 2
-    }
+    if (with_flags(form)) return set_terms_with_flags(format)
     if (base == "reduce") {
         term[1] = "numberOf (reduceOf " width hex(1) " " operand[2] hex(3) ")"; said[1] = answer[1]
         term[2] = "valueOf (reduceOf " width hex(1) " " operand[2] hex(3) ")"; said[2] = "0x" answer[2]
@@ -132,29 +127,33 @@ function set_terms(    format) {
 
 # one term: the list of the parts of the answer
 function set_terms_with_flags(format) {
-    if (form == base ".A") {
+    if (form == base) {
+        term[1] = "(" base "Of" format operand_terms() " ∷ flagWord (" base "Flags" format operand_terms() ") ∷ [])"
+        said[1] = "(0x" answer[1] " ∷ " numberOfFlags[answer[2]] " ∷ [])"
+    } else {
         term[1] = "told (" rounded_call() ")"
         said[1] = "(" answer[1] " ∷ 0x" answer[2] " ∷ " numberOfFlags[answer[3]] " ∷ [])"
-    } else {
-        term[1] = "(" base "Of" format hex(1) " ∷ wordOf (" base "Flags" format hex(1) ") ∷ [])"
-        said[1] = "(0x" answer[1] " ∷ " numberOfFlags[answer[2]] " ∷ [])"
     }
     return 1
 }
 
-function rounded_call() { return base "Rounded b" width " " attribute(suffixOf(op)) operand_terms() }
+# without an attribute, under nearest even
+function rounded_call() { return base "Rounded b" width " " (form == base ? 0 : attribute(suffixOf(op))) operand_terms() }
 
-function ask_with_flags(    flags, i) {
-    if (form == base ".A") {
-        term[1] = rounded_call() " .number"
-        term[2] = rounded_call() " .value"
+# The call under an attribute takes fewest steps, so it is asked where there is one. What it shows is run in its turn, by the line's own definition.
+function ask_with_flags(    flags, definitions, n, i) {
+    if (stemOf(op) in takesAttribute) {
+        term[++n] = rounded_call() " .number"
+        term[++n] = rounded_call() " .value"
         flags = rounded_call() " .flags"
+        definitions = definitionsOf[base ".A"]
     } else {
-        term[1] = base "Of b" width hex(1)
+        term[++n] = base "Of b" width hex(1)
         flags = base "Flags b" width hex(1)
+        definitions = definitionsOf[form]
     }
-    declare("line" lineNumber, form == base ".A" ? 2 : 1)
-    for (i = 1; i <= flagCount; i++) put_declaration("line" lineNumber "-flag" i, flags " ." flagField[i] " ≡ false", "refl", definitionsOf[form])
+    declare("line" lineNumber, n, definitions)
+    for (i = 1; i <= flagCount; i++) put_declaration("line" lineNumber "-flag" i, flags " ." flagField[i] " ≡ false", "refl", definitions)
 }
 
 # all operands, of which those after the first are words too, or one number with a sign
@@ -189,14 +188,14 @@ function hex(i) { return " 0x" operand[i] }
 function whole(number) { return number ~ /^-/ ? "negsuc " sprintf("%.0f", -number - 1) : "pos " number }
 
 # one declaration of the n equations of term[] and said[], or asking for the n terms
-function declare(name, n,    i, claim, proof) {
+function declare(name, n, definitions,    i, claim, proof) {
     for (i = 1; i <= n; i++) {
         if (mode == "ask") claim = claim term[i] " ∷ "
         else claim = claim (i > 1 ? " × " : "") "(" term[i] " ≡ " said[i] ")"
         proof = proof (i > 1 ? ", " : "") "refl"
     }
-    if (mode == "ask") put_declaration(name, "shown (" claim "[]) ≡ 0", "refl", definitionsOf[form])
-    else put_declaration(name, claim, "(" proof ")", definitionsOf[form])
+    if (mode == "ask") put_declaration(name, "shown (" claim "[]) ≡ 0", "refl", definitions)
+    else put_declaration(name, claim, "(" proof ")", definitions)
 }
 
 function put_declaration(name, claim, proof, definitions) { put(name " : " claim "\nunfolding " definitions "\n" name " = " proof "\n\n") }
@@ -217,12 +216,12 @@ function write_list(    call, i) {
         write_places("after" lineNumber, after, 1, afterCount)
         term[3] = call " .output"; said[3] = "after" lineNumber
     }
-    declare("line" lineNumber, 3)
+    declare("line" lineNumber, 3, definitionsOf[form])
     if (mode != "ask") return
     # each place by itself; the output is as long as one of the two lists
     for (i = 1; i <= inputCount || i <= beforeCount; i++) {
         term[1] = "getD (" call " .output) " (i - 1) " 0"
-        declare("line" lineNumber "-" i, 1)
+        declare("line" lineNumber "-" i, 1, definitionsOf[form])
     }
 }
 

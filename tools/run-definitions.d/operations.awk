@@ -1,6 +1,5 @@
 # The operations, and what stands at each place of a line. Every other program here is run with this one before it.
-# A name is a base and a width, and may have a suffix after a point: sqrt64, sqrt64.up, sqrt64.7, floor16.flags. Its form is the base alone, BASE.A where
-# the suffix is an attribute, or BASE.flags.
+# A name is a base and a width, and may have an attribute after a point: sqrt64, sqrt64.up, sqrt64.7. Its form is the base alone, or BASE.A.
 
 function operation(form, operands, answers, shape, definitions) {
     operandsOf[form] = operands
@@ -10,11 +9,11 @@ function operation(form, operands, answers, shape, definitions) {
 }
 
 BEGIN {
-    operation("sqrt", "word", "word status", "X -> R STATUS", "sqrtOf sqrtStatus")
-    operation("floor", "word", "word status", "X -> R STATUS", "floorOf floorStatus")
-    operation("trunc", "word", "word status", "X -> R STATUS", "truncOf truncStatus")
-    operation("scalbn", "word signed", "word", "X N -> R", "scalbnOf")
-    operation("fma", "word word word", "word", "X Y Z -> R", "fmaOf")
+    operation("sqrt", "word", "word flags", "X -> R FLAGS", "sqrtOf sqrtFlags")
+    operation("floor", "word", "word flags", "X -> R FLAGS", "floorOf floorFlags")
+    operation("trunc", "word", "word flags", "X -> R FLAGS", "truncOf truncFlags")
+    operation("scalbn", "word signed", "word flags", "X N -> R FLAGS", "scalbnOf scalbnFlags")
+    operation("fma", "word word word", "word flags", "X Y Z -> R FLAGS", "fmaOf fmaFlags")
     operation("fmod", "word word", "word", "X Y -> R", "fmodOf")
     operation("remquo", "word word", "word signed", "X Y -> R QUOTIENT", "remquoOf quotientOf")
     operation("reduce", "word unsigned word", "unsigned word", "X SHIFT Y -> REFUSAL R", "reduceOf")
@@ -22,29 +21,25 @@ BEGIN {
     operation("sqrt.A", "word", "unsigned word flags", "X -> NUMBER R FLAGS", "sqrtRounded")
     operation("fma.A", "word word word", "unsigned word flags", "X Y Z -> NUMBER R FLAGS", "fmaRounded")
     operation("scalbn.A", "word signed", "unsigned word flags", "X N -> NUMBER R FLAGS", "scalbnRounded")
-    operation("floor.flags", "word", "word flags", "X -> R FLAGS", "floorOf floorFlags")
-    operation("trunc.flags", "word", "word flags", "X -> R FLAGS", "truncOf truncFlags")
     names = "sqrt64 sqrt32 floor64 floor32 trunc64 trunc32 scalbn64 scalbn32 fma64 fma32 fmod64 fmod32 remquo64 reduce64 reduce32 list64"
     operationCount = split(names, operationAt, " ")
     for (i = 1; i <= operationCount; i++) known[operationAt[i]] = 1
-    name_suffixes()
-    split("OK INVALID INEXACT INVALID+INEXACT", statusWord, " ")
-    split("0 1 32 33", statusNumber, " ")
-    for (i = 1; i <= 4; i++) {
-        numberOfStatus[statusWord[i]] = statusNumber[i]
-        statusOfNumber[statusNumber[i]] = statusWord[i]
-    }
+    name_flagged()
     name_flags()
     # so many places of a list are compared in one declaration, which the checker's limit of steps a declaration allows
     slice = 256
 }
 
-# the stems that take a suffix, in the order of the counts, and the names of the attributes
-function name_suffixes(    i) {
+# the names whose answer has flags, in the order of the counts: those that take an attribute come first; and the attributes
+function name_flagged(    i) {
     attributeCount = split("even zero down up away", attributeAt, " ")
     for (i = 1; i <= attributeCount; i++) numberOfAttribute[attributeAt[i]] = i - 1
+    narrowNames = "sqrt16 fma16 scalbn16 floor16 trunc16"
     stemCount = split("sqrt64 sqrt32 sqrt16 fma64 fma32 fma16 scalbn64 scalbn32 scalbn16 floor64 floor32 floor16 trunc64 trunc32 trunc16", stemAt, " ")
-    for (i = 1; i <= stemCount; i++) suffixKindOf[stemAt[i]] = i <= 9 ? "A" : "flags"
+    for (i = 1; i <= stemCount; i++) {
+        known[stemAt[i]] = 1
+        if (i <= 9) takesAttribute[stemAt[i]] = 1
+    }
 }
 
 # the flags, and each of their 32 sets, by its words and by its number
@@ -70,7 +65,8 @@ function stemOf(op) { sub(/\..*/, "", op); return op }
 function suffixOf(op) { return substr(op, length(stemOf(op)) + 2) }
 function baseOf(op) { op = stemOf(op); return substr(op, 1, length(op) - 2) }
 function widthOf(op) { op = stemOf(op); return substr(op, length(op) - 1) }
-function formOf(op) { return index(op, ".") ? baseOf(op) "." suffixKindOf[stemOf(op)] : baseOf(op) }
+function formOf(op) { return baseOf(op) (index(op, ".") ? ".A" : "") }
+function with_flags(form) { return answersOf[form] ~ /flags$/ }
 
 # the number of an attribute, by its name or by itself
 function attribute(suffix) { return suffix in numberOfAttribute ? numberOfAttribute[suffix] : suffix }

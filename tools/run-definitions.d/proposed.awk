@@ -4,9 +4,9 @@
 FILENAME == answersFile { given[$1] = substr($0, length($1) + 2); next }
 {
     take_apart()
-    if (form == base || !(lineNumber in given)) next
+    if (!with_flags(form) || !(lineNumber in given)) next
     n = split(given[lineNumber], field, " ")
-    text = (n > 1 ? plain(field[1]) " " : "") hex_of(field[n], width / 4)
+    text = (form != base ? plain(field[1]) " " : "") hex_of(field[n], width / 4)
     for (i = 1; i <= flagCount; i++) if ((lineNumber "-flag" i) in given) raised += flagBit[i]
     print lineNumber " " substr(lineText, 1, index(lineText, " -> ") + 3) text " " flagsOfNumber[raised + 0]
     raised = 0

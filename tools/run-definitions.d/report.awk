@@ -45,7 +45,7 @@ function shortened(text) { return length(text) > 400 ? substr(text, 1, 400) "...
 function definition_gives(    field, n, kind, i, text) {
     take_lists()
     if (isLong) return long_list_gives()
-    if (form != base) return lineNumber in held ? proposed[lineNumber] : ""
+    if (with_flags(form)) return lineNumber in held ? proposed[lineNumber] : ""
     n = split(given[lineNumber], field, " ")
     if (base == "list") return n == 3 ? list_gives(field) : ""
     if (n != split(answersOf[form], kind, " ")) return ""
@@ -56,8 +56,7 @@ function definition_gives(    field, n, kind, i, text) {
 function written(kind, digits) {
     if (kind == "word") return hex_of(digits, width / 4)
     if (kind == "signed" && substr(digits, 10, 1) == "1") return "-" plain(substr(digits, 11))
-    digits = plain(digits)
-    return kind == "status" && digits in statusOfNumber ? statusOfNumber[digits] : digits
+    return plain(digits)
 }
 
 # number, value and length are in field[], and each place has a name of its own
@@ -93,10 +92,13 @@ function print_plain_counts(    i) {
         if (operationAt[i] in cases) print_counts(operationAt[i]); else missing = missing " " operationAt[i]
 }
 
-# by stem; the attributes in the order of their numbers, each by its word, then those that were given by a number
+# by stem: without an attribute, where that is not counted yet, then the attributes in the order of their numbers, each by its word, then those that were
+# given by a number
 function print_flags_counts(    i, k, n, suffix) {
     for (i = 1; i <= stemCount; i++) {
-        if (suffixKindOf[stemAt[i]] == "flags") { print_or_miss(stemAt[i] ".flags"); continue }
+        if (widthOf(stemAt[i]) == 16) print_or_miss(stemAt[i])
+        else if (!(stemAt[i] in cases)) missingFlags = missingFlags " " stemAt[i]
+        if (!(stemAt[i] in takesAttribute)) continue
         for (k = 1; k <= attributeCount; k++) print_or_miss(stemAt[i] "." attributeAt[k])
         n = split(numbersOf[stemAt[i]], suffix, " ")
         sort(suffix, n)

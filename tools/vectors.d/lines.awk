@@ -1,4 +1,4 @@
-# glibc's tests of sqrt, fma and scalbn in nearest mode as lines of docs/LINES.md. Read after numbers.awk. The computed lists (auto-libm-test-out-*) name format and
+# glibc's tests of sqrt, fma and scalbn in nearest mode, with their flags, as lines of docs/LINES.md. Read after numbers.awk. The computed lists (auto-libm-test-out-*) name format and
 # rounding mode in each line; the written ones (libm-test-*.inc) hold for every format and use names for its limits.
 
 function wrong(what) {
@@ -59,12 +59,63 @@ function power_of(text,    minus) {
     return minus * (fraction + 1) + (text ~ /\+1$/ ? 1 : text ~ /[A-Z]-1$/ ? -1 : 0)
 }
 
-# One line, with its answer; the same request may stand in two lists.
-function take(operation, operands, answer,    line, nan) {
-    nan = special("", "1" zeros(fraction - 1))
-    if (operation == "sqrt") answer = answer (answer == nan ? " INVALID" : " OK")
-    line = operation width " " operands " -> " answer
+# ---- the flags. Each reader sets raised[] and, where the vector leaves one open, open to its name.
+BEGIN {
+    flagCount = split("INVALID DIVBYZERO OVERFLOW UNDERFLOW INEXACT", flagAt, " ")
+    split("invalid divbyzero overflow underflow inexact", wordAt, " ")
+    split("INVALID DIVIDE_BY_ZERO OVERFLOW UNDERFLOW INEXACT", macroAt, " ")
+    for (i = 1; i <= flagCount; i++) flagOf[wordAt[i]] = flagOf[macroAt[i]] = flagAt[i]
+}
+
+# inexact underflow:before-rounding errno-erange-ok: of a correctly rounded function each flag that is not there is not raised. Ours is the machine that judges after rounding.
+function read_flags(text,    words, n, i, flag) {
+    n = split(text, words, " ")
+    for (i = 1; i <= n; i++) {
+        if (words[i] ~ /^errno-/) continue
+        flag = words[i]
+        sub(/(-ok)?(:[a-z]*-rounding)?$/, "", flag)
+        if (!(flag in flagOf)) wrong("no flag that is understood: " words[i])
+        if (words[i] ~ /:before-rounding$/) { before[operation_at_hand]++; continue }
+        if (words[i] ~ /-ok/) open = flagOf[flag]
+        else raised[flagOf[flag]] = 1
+    }
+}
+
+# INEXACT_EXCEPTION|UNDERFLOW_EXCEPTION|ERRNO_PLUS_UFLOW: inexact is open unless it is named, the others are not raised unless they are; XFAIL is of another format.
+function read_macros(text,    words, n, i, flag, isInexactKnown) {
+    gsub(/ /, "", text)
+    n = split(text, words, "|")
+    for (i = 1; i <= n; i++) {
+        if (words[i] ~ /^(ERRNO_[A-Z_]*|XFAIL_ROUNDING_IBM128_LIBGCC)$/) continue
+        if (words[i] ~ /^(NO_)?INEXACT_EXCEPTION$/) isInexactKnown = 1
+        if (words[i] == "NO_INEXACT_EXCEPTION") continue
+        flag = words[i]
+        sub(/_EXCEPTION(_OK)?$/, "", flag)
+        if (!(flag in flagOf) || flag == words[i]) wrong("no flag that is understood: " words[i])
+        if (words[i] ~ /_OK$/) open = flagOf[flag]
+        else raised[flagOf[flag]] = 1
+    }
+    if (!isInexactKnown) open = "INEXACT"
+}
+
+function flags_text(    i, text) {
+    for (i = 1; i <= flagCount; i++) if (flagAt[i] in raised) text = text (text == "" ? "" : "+") flagAt[i]
+    return text == "" ? "OK" : text
+}
+function clear_flags(name) {
+    operation_at_hand = name
+    open = ""
+    split("", raised)
+}
+
+# One line, with its answer; the same request may stand in two lists. A vector that leaves a flag open is left out.
+function take(operation, operands, answer,    line) {
     found[operation width]++
+    if (open != "") {
+        leftOut[operation width " " open]++
+        return
+    }
+    line = operation width " " operands " -> " answer " " flags_text()
     if (line in seen) return
     seen[line] = 1
     taken[operation width]++
@@ -85,7 +136,13 @@ $1 == "=" && $3 == "tonearest" && ($4 == "binary64" || $4 == "binary32") {
     choose(substr($4, 7) + 0)
     operands = ""
     for (i = 5; $i != ":" && i < NF; i++) operands = operands (i > 5 ? " " : "") needed(value_of($i), "operand", $i)
-    take($2, operands, answer_of($(i + 1)))
+    answer = $(i + 1)
+    if ($(i + 2) != ":") wrong("no flags after the answer")
+    clear_flags($2 width)
+    text = $0
+    sub(/^[^:]*:[^:]*:/, "", text)
+    read_flags(text)
+    take($2, operands, answer_of(answer))
     next
 }
 
@@ -97,28 +154,39 @@ $1 == "=" && $3 == "tonearest" && ($4 == "binary64" || $4 == "binary32") {
     sub(/\),? *$/, "", text)
     count = split(text, parts, / *, */)
     inputs = shape == "TEST_fff_f" ? 3 : shape == "TEST_fi_f" ? 2 : 1
-    if (count == inputs + 3) answer = parts[inputs + 2]
-    else if (count == inputs + 9) answer = parts[inputs + 4]
+    if (count == inputs + 3) at = inputs + 2
+    else if (count == inputs + 9) at = inputs + 4
     else wrong("neither one answer nor four: " text)
     for (bits = 64; bits >= 32; bits -= 32) {
         choose(bits)
         operands = needed(value_of(parts[2]), "operand", parts[2])
         if (inputs == 3) operands = operands " " needed(value_of(parts[3]), "operand", parts[3]) " " needed(value_of(parts[4]), "operand", parts[4])
         if (inputs == 2) operands = operands " " needed(power_of(parts[3]), "power", parts[3])
-        take(parts[1], operands, answer_of(answer))
+        clear_flags(parts[1] width)
+        read_macros(parts[at + 1])
+        take(parts[1], operands, answer_of(parts[at]))
     }
+}
+
+# COUNT NAME, .. for the names that a list of counts has
+function told(list, after,    i, text) {
+    for (i = 1; i <= nameCount; i++) if ((names[i] after) in list) text = text (text == "" ? "" : ", ") list[names[i] after] " " names[i]
+    return text
 }
 
 END {
     if (failed) exit 1
-    count = split("sqrt64 sqrt32 fma64 fma32 scalbn64 scalbn32", names, " ")
-    for (i = 1; i <= count; i++) {
+    nameCount = split("sqrt64 sqrt32 fma64 fma32 scalbn64 scalbn32", names, " ")
+    for (i = 1; i <= nameCount; i++) {
         if (!taken[names[i]]) wrong("no line of " names[i])
         counts = counts (i > 1 ? ", " : "") taken[names[i]] " of " found[names[i]] " " names[i]
     }
+    for (i = 1; i <= flagCount; i++) if (told(leftOut, " " flagAt[i]) != "") left = left (left == "" ? "" : "; ") flagAt[i] " " told(leftOut, " " flagAt[i])
+    left = "left out, as they leave a flag open: " (left == "" ? "none" : left)
     print "# Published test vectors for correctly rounded operations: the GNU C Library 2.36 (LGPL 2.1 or later), math/auto-libm-test-out-sqrt and -fma and math/libm-test-sqrt.inc, -fma.inc and"
-    print "# -scalbn.inc, formats binary64 and binary32, nearest mode; figures alone, written by tools/vectors. Flags are left out: the statuses of sqrt are by the rule of this project."
-    print "# Lines without those that came twice: " counts "."
+    print "# -scalbn.inc, formats binary64 and binary32, nearest mode, with the flags that they state; figures alone, written by tools/vectors."
+    print "# Lines without those that came twice: " counts "; " left "."
+    print "# Underflow where tininess is judged before rounding, and so not raised here: " told(before, "") "."
     for (i = 1; i <= last; i++) print lines[i]
-    print "vectors: " counts > "/dev/stderr"
+    print "vectors: " counts "; " left > "/dev/stderr"
 }

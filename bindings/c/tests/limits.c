@@ -18,6 +18,7 @@ static void expect(int holds, const char *what) {
    a list there is one more, which no call may write. */
 #define INFINITE UINT64_C(0x7ff0000000000000)
 #define UNTOUCHED UINT64_C(0x0123456789abcdef)
+#define UNTOUCHED32 UINT32_C(0x89abcdef)
 #define ROOM (PK_LIST_LIMIT + 1)
 
 static uint64_t input[ROOM + 2], output[ROOM + 2];
@@ -65,13 +66,17 @@ static void no_operation(uint32_t op) {
     list("no operation, lists too long and unlike", PK_UNKNOWN_OPERATION, op, xs, 8193, ys, 1);
 }
 
-/* ---- the reduction: the number and the value */
+/* ---- the reduction: the number and the value, which is written on a refusal too */
 static void reduce64(const char *what, uint32_t number, uint64_t value, uint64_t x, uint32_t e, uint64_t y) {
-    expect(pk_reduce64_refusal(x, e, y) == number && pk_reduce64(x, e, y) == value, what);
+    uint64_t places[3] = {UNTOUCHED, UNTOUCHED, UNTOUCHED};
+    expect(pk_reduce64(x, e, y, &places[1]) == number && places[1] == value, what);
+    expect(places[0] == UNTOUCHED && places[2] == UNTOUCHED, what);
 }
 
 static void reduce32(const char *what, uint32_t number, uint32_t value, uint32_t x, uint32_t e, uint32_t y) {
-    expect(pk_reduce32_refusal(x, e, y) == number && pk_reduce32(x, e, y) == value, what);
+    uint32_t places[3] = {UNTOUCHED32, UNTOUCHED32, UNTOUCHED32};
+    expect(pk_reduce32(x, e, y, &places[1]) == number && places[1] == value, what);
+    expect(places[0] == UNTOUCHED32 && places[2] == UNTOUCHED32, what);
 }
 
 static void reductions(void) {
@@ -89,7 +94,8 @@ static void reductions(void) {
 
 /* ---- the numbers that the names of the header stand for */
 static void numbers(void) {
-    expect(PK_OK == 0 && PK_INVALID == 1 && PK_INEXACT == 32, "the statuses");
+    expect(PK_OK == 0 && PK_INVALID == 1 && PK_DIVBYZERO == 4, "the flags 0 to 4");
+    expect(PK_OVERFLOW == 8 && PK_UNDERFLOW == 16 && PK_INEXACT == 32, "the flags 8 to 32");
     expect(PK_DONE == 0 && PK_UNKNOWN_OPERATION == 1 && PK_LIST_TOO_LONG == 2, "the refusals 0 to 2");
     expect(PK_LENGTHS_DIFFER == 3 && PK_OUT_OF_RANGE == 4 && PK_SHIFT_TOO_GREAT == 5, "the refusals 3 to 5");
     expect(PK_LIST_SQRT == 1 && PK_LIST_FLOOR == 2 && PK_LIST_TRUNC == 3, "the operations of the list call");

@@ -1,7 +1,7 @@
 //! The greatest whole number that is not above.
 
 use crate::raw;
-use crate::{FpResult, Status};
+use crate::Flags;
 
 /// The greatest whole number that is not above `x`, exactly, on patterns of 64 bits.
 ///
@@ -21,28 +21,23 @@ pub fn floor32(x: u32) -> u32 {
     raw::pk_floor32(x)
 }
 
-/// What [`floor64`] gives, with its status: [`Status::Inexact`] where `x` is finite and the answer is
-/// another pattern; [`Status::Ok`] for all else, NaNs too.
+/// What [`floor64`] gives, with its flags: invalid for a signalling NaN; inexact where `x` is finite
+/// and the answer is another pattern. No other is raised.
 ///
 /// ```
-/// use paskerotim::{floor64_status, FpResult, Status};
+/// use paskerotim::{floor64_flags, Flags};
 ///
-/// assert_eq!(floor64_status(0x3fe0000000000000), FpResult { value: 0, status: Status::Inexact });
-/// assert_eq!(floor64_status(0x0000000000000000), FpResult { value: 0, status: Status::Ok });
+/// let inexact = Flags { inexact: true, ..Flags::NONE };
+/// assert_eq!(floor64_flags(0x3fe0000000000000), (0, inexact));
+/// assert_eq!(floor64_flags(0x0000000000000000), (0, Flags::NONE));
 /// ```
-pub fn floor64_status(x: u64) -> FpResult<u64> {
-    FpResult {
-        value: floor64(x),
-        status: Status::given(raw::pk_floor64_status(x)),
-    }
+pub fn floor64_flags(x: u64) -> (u64, Flags) {
+    Flags::of(|flags| raw::pk_floor64_flags(x, flags))
 }
 
-/// What [`floor32`] gives, with its status, by the rule of [`floor64_status`].
-pub fn floor32_status(x: u32) -> FpResult<u32> {
-    FpResult {
-        value: floor32(x),
-        status: Status::given(raw::pk_floor32_status(x)),
-    }
+/// What [`floor32`] gives, with its flags, by the rule of [`floor64_flags`].
+pub fn floor32_flags(x: u32) -> (u32, Flags) {
+    Flags::of(|flags| raw::pk_floor32_flags(x, flags))
 }
 
 /// [`floor64`] on numbers.
@@ -53,4 +48,16 @@ pub fn floor(x: f64) -> f64 {
 /// [`floor32`] on numbers.
 pub fn floorf(x: f32) -> f32 {
     f32::from_bits(floor32(x.to_bits()))
+}
+
+/// [`floor64_flags`] on numbers.
+pub fn floor_flags(x: f64) -> (f64, Flags) {
+    let (value, flags) = floor64_flags(x.to_bits());
+    (f64::from_bits(value), flags)
+}
+
+/// [`floor32_flags`] on numbers.
+pub fn floorf_flags(x: f32) -> (f32, Flags) {
+    let (value, flags) = floor32_flags(x.to_bits());
+    (f32::from_bits(value), flags)
 }

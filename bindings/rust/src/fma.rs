@@ -1,6 +1,7 @@
 //! The fused sum of a product.
 
 use crate::raw;
+use crate::Flags;
 
 /// `x` times `y` plus `z`, rounded once, on patterns of 64 bits.
 ///
@@ -23,6 +24,25 @@ pub fn fma32(x: u32, y: u32, z: u32) -> u32 {
     raw::pk_fma32(x, y, z)
 }
 
+/// What [`fma64`] gives, with its flags: invalid if any operand is a signalling NaN, if a zero is
+/// multiplied by an infinity, also where `z` is a quiet NaN, or if an infinite product meets an
+/// infinite `z` of the other sign; for finite operands inexact, overflow and underflow as the sum is
+/// rounded.
+///
+/// ```
+/// // A quarter of the smallest number is tiny and not exact.
+/// let (value, flags) = paskerotim::fma64_flags(1, 0x3fd0000000000000, 0);
+/// assert_eq!((value, flags.to_string().as_str()), (0, "UNDERFLOW+INEXACT"));
+/// ```
+pub fn fma64_flags(x: u64, y: u64, z: u64) -> (u64, Flags) {
+    Flags::of(|flags| raw::pk_fma64_flags(x, y, z, flags))
+}
+
+/// What [`fma32`] gives, with its flags; see [`fma64_flags`].
+pub fn fma32_flags(x: u32, y: u32, z: u32) -> (u32, Flags) {
+    Flags::of(|flags| raw::pk_fma32_flags(x, y, z, flags))
+}
+
 /// [`fma64`] on numbers.
 pub fn fma(x: f64, y: f64, z: f64) -> f64 {
     f64::from_bits(fma64(x.to_bits(), y.to_bits(), z.to_bits()))
@@ -31,4 +51,16 @@ pub fn fma(x: f64, y: f64, z: f64) -> f64 {
 /// [`fma32`] on numbers.
 pub fn fmaf(x: f32, y: f32, z: f32) -> f32 {
     f32::from_bits(fma32(x.to_bits(), y.to_bits(), z.to_bits()))
+}
+
+/// [`fma64_flags`] on numbers.
+pub fn fma_flags(x: f64, y: f64, z: f64) -> (f64, Flags) {
+    let (value, flags) = fma64_flags(x.to_bits(), y.to_bits(), z.to_bits());
+    (f64::from_bits(value), flags)
+}
+
+/// [`fma32_flags`] on numbers.
+pub fn fmaf_flags(x: f32, y: f32, z: f32) -> (f32, Flags) {
+    let (value, flags) = fma32_flags(x.to_bits(), y.to_bits(), z.to_bits());
+    (f32::from_bits(value), flags)
 }

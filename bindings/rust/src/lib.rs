@@ -2,7 +2,8 @@
 //!
 //! Seven operations: [`sqrt64`], [`fma64`], [`fmod64`], [`remquo64`], [`scalbn64`], [`floor64`] and
 //! [`trunc64`], and the same at 32 bits but for remquo; with them [`list64`], which does one
-//! operation on a list, and [`reduce64`], a reduction of whole numbers. Each is proved, in the
+//! operation on a list, and [`reduce64`], a reduction of whole numbers. [`sqrt64_flags`] and the like,
+//! of sqrt, fma, scalbn, floor and trunc, give the [`Flags`] besides. Each is proved, in the
 //! archive that this crate links, to give the answer described here for every input; the
 //! repository's `docs/TRUST.md` says what that rests on, and what is tested and not proved.
 //!
@@ -18,18 +19,19 @@
 //!
 //! The *canonical NaN* is [`NAN64`] or [`NAN32`]. It is the only NaN that any operation answers.
 //!
-//! The functions under libm's names, [`sqrt`], [`sqrtf`], [`remquo`] and so on, take
-//! and give `f64` and `f32` with libm's types. They are the functions on patterns between `to_bits`
-//! and `from_bits`, and nothing else. Where the bits of a NaN matter, patterns are the safer
-//! choice: a machine may change them when it moves a number about, though neither x86-64 nor Arm
-//! does.
+//! The functions under libm's names, [`sqrt`], [`sqrtf`], [`remquo`] and so on, take and give `f64`
+//! and `f32` with libm's types, and so do [`sqrt_flags`], [`sqrtf_flags`] and the like. They are the
+//! functions on patterns between `to_bits` and `from_bits`, and nothing else. Where the bits of a NaN
+//! matter, patterns are the safer choice: a machine may change them when it moves a number about,
+//! though neither x86-64 nor Arm does.
 //!
 //! ```
-//! use paskerotim::{sqrt, sqrt64, sqrt64_status, Status};
+//! use paskerotim::{sqrt, sqrt64, sqrt64_flags};
 //!
 //! assert_eq!(sqrt64(0x4000000000000000), 0x3ff6a09e667f3bcd);
-//! assert_eq!(sqrt64_status(0xbff0000000000000).status, Status::Invalid);
 //! assert_eq!(sqrt(2.0).to_bits(), 0x3ff6a09e667f3bcd);
+//! let (root, flags) = sqrt64_flags(0x4000000000000000);
+//! assert_eq!((root, flags.to_string().as_str()), (0x3ff6a09e667f3bcd, "INEXACT"));
 //! ```
 //!
 //! # The archive
@@ -37,7 +39,7 @@
 //! The build links the static library that the variable `PASKEROTIM_ARCHIVE` names. Where it is not
 //! set, and this crate is in its repository, it links the one that `tools/oracle archive --native`
 //! makes there, for which the Rattle toolchain is needed. Archive and crate must be of one version:
-//! a status or a refusal that the crate does not know is a panic, and the archive of its own
+//! a flag or a refusal that the crate does not know is a panic, and the archive of its own
 //! version gives none.
 
 #![no_std]
@@ -55,14 +57,21 @@ mod scalbn;
 mod sqrt;
 mod trunc;
 
-pub use env::{FpResult, Status, NAN32, NAN64};
-pub use floor::{floor, floor32, floor32_status, floor64, floor64_status, floorf};
-pub use fma::{fma, fma32, fma64, fmaf};
+pub use env::{Flags, NAN32, NAN64};
+pub use floor::{
+    floor, floor32, floor32_flags, floor64, floor64_flags, floor_flags, floorf, floorf_flags,
+};
+pub use fma::{fma, fma32, fma32_flags, fma64, fma64_flags, fma_flags, fmaf, fmaf_flags};
 pub use fmod::{fmod, fmod32, fmod64, fmodf};
 pub use list::{list64, list64_by_number, ListOperation, LIST_LIMIT};
 pub use modular::{reduce32, reduce64, DIVISOR_LIMIT32, DIVISOR_LIMIT64, SHIFT_LIMIT};
 pub use refusal::Refusal;
-pub use remquo::{remquo, remquo64, Remquo64};
-pub use scalbn::{scalbn, scalbn32, scalbn64, scalbnf};
-pub use sqrt::{sqrt, sqrt32, sqrt32_status, sqrt64, sqrt64_status, sqrtf};
-pub use trunc::{trunc, trunc32, trunc32_status, trunc64, trunc64_status, truncf};
+pub use remquo::{remquo, remquo64};
+pub use scalbn::{
+    scalbn, scalbn32, scalbn32_flags, scalbn64, scalbn64_flags, scalbn_flags, scalbnf,
+    scalbnf_flags,
+};
+pub use sqrt::{sqrt, sqrt32, sqrt32_flags, sqrt64, sqrt64_flags, sqrt_flags, sqrtf, sqrtf_flags};
+pub use trunc::{
+    trunc, trunc32, trunc32_flags, trunc64, trunc64_flags, trunc_flags, truncf, truncf_flags,
+};

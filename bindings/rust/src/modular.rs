@@ -27,7 +27,8 @@ pub const DIVISOR_LIMIT32: u32 = (1 << 30) - 1;
 /// assert_eq!(reduce64(14, 4097, 7), Err(Refusal::OutOfRange));
 /// ```
 pub fn reduce64(x: u64, e: u32, y: u64) -> Result<u64, Refusal> {
-    Refusal::given(raw::pk_reduce64_refusal(x, e, y)).map(|()| raw::pk_reduce64(x, e, y))
+    let mut value = 0;
+    Refusal::given(raw::pk_reduce64(x, e, y, &mut value)).map(|()| value)
 }
 
 /// (`x` times 2^`e`) mod `y`, of plain whole numbers and not of patterns.
@@ -36,5 +37,6 @@ pub fn reduce64(x: u64, e: u32, y: u64) -> Result<u64, Refusal> {
 ///
 /// Those of [`reduce64`], with [`DIVISOR_LIMIT32`].
 pub fn reduce32(x: u32, e: u32, y: u32) -> Result<u32, Refusal> {
-    Refusal::given(raw::pk_reduce32_refusal(x, e, y)).map(|()| raw::pk_reduce32(x, e, y))
+    let mut value = 0;
+    Refusal::given(raw::pk_reduce32(x, e, y, &mut value)).map(|()| value)
 }

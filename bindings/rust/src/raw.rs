@@ -5,33 +5,35 @@
 #![allow(unsafe_code)]
 
 // Safety of the block: the declarations are those of the archive's functions. Safety of the
-// functions that are marked safe: they take and give numbers alone, are proved to end with an
-// answer for every one of them, and read and write no memory of the caller's.
+// functions that are marked safe: they take numbers and at most one place, are proved to end with an
+// answer for every number, and read and write no memory of the caller's but that place, which a
+// `&mut` makes valid, aligned and the call's own. None keeps it.
 unsafe extern "C" {
     pub(crate) safe fn pk_sqrt64(x: u64) -> u64;
     pub(crate) safe fn pk_sqrt32(x: u32) -> u32;
-    pub(crate) safe fn pk_sqrt64_status(x: u64) -> u32;
-    pub(crate) safe fn pk_sqrt32_status(x: u32) -> u32;
+    pub(crate) safe fn pk_sqrt64_flags(x: u64, flags: &mut u32) -> u64;
+    pub(crate) safe fn pk_sqrt32_flags(x: u32, flags: &mut u32) -> u32;
     pub(crate) safe fn pk_floor64(x: u64) -> u64;
     pub(crate) safe fn pk_floor32(x: u32) -> u32;
-    pub(crate) safe fn pk_floor64_status(x: u64) -> u32;
-    pub(crate) safe fn pk_floor32_status(x: u32) -> u32;
+    pub(crate) safe fn pk_floor64_flags(x: u64, flags: &mut u32) -> u64;
+    pub(crate) safe fn pk_floor32_flags(x: u32, flags: &mut u32) -> u32;
     pub(crate) safe fn pk_trunc64(x: u64) -> u64;
     pub(crate) safe fn pk_trunc32(x: u32) -> u32;
-    pub(crate) safe fn pk_trunc64_status(x: u64) -> u32;
-    pub(crate) safe fn pk_trunc32_status(x: u32) -> u32;
+    pub(crate) safe fn pk_trunc64_flags(x: u64, flags: &mut u32) -> u64;
+    pub(crate) safe fn pk_trunc32_flags(x: u32, flags: &mut u32) -> u32;
     pub(crate) safe fn pk_fma64(x: u64, y: u64, z: u64) -> u64;
     pub(crate) safe fn pk_fma32(x: u32, y: u32, z: u32) -> u32;
-    pub(crate) safe fn pk_fmod64(x: u64, y: u64) -> u64;
-    pub(crate) safe fn pk_fmod32(x: u32, y: u32) -> u32;
-    pub(crate) safe fn pk_remquo64(x: u64, y: u64) -> u64;
-    pub(crate) safe fn pk_remquo64_quotient(x: u64, y: u64) -> i32;
+    pub(crate) safe fn pk_fma64_flags(x: u64, y: u64, z: u64, flags: &mut u32) -> u64;
+    pub(crate) safe fn pk_fma32_flags(x: u32, y: u32, z: u32, flags: &mut u32) -> u32;
     pub(crate) safe fn pk_scalbn64(x: u64, n: i32) -> u64;
     pub(crate) safe fn pk_scalbn32(x: u32, n: i32) -> u32;
-    pub(crate) safe fn pk_reduce64(x: u64, e: u32, y: u64) -> u64;
-    pub(crate) safe fn pk_reduce32(x: u32, e: u32, y: u32) -> u32;
-    pub(crate) safe fn pk_reduce64_refusal(x: u64, e: u32, y: u64) -> u32;
-    pub(crate) safe fn pk_reduce32_refusal(x: u32, e: u32, y: u32) -> u32;
+    pub(crate) safe fn pk_scalbn64_flags(x: u64, n: i32, flags: &mut u32) -> u64;
+    pub(crate) safe fn pk_scalbn32_flags(x: u32, n: i32, flags: &mut u32) -> u32;
+    pub(crate) safe fn pk_fmod64(x: u64, y: u64) -> u64;
+    pub(crate) safe fn pk_fmod32(x: u32, y: u32) -> u32;
+    pub(crate) safe fn pk_remquo64(x: u64, y: u64, quotient: &mut i32) -> u64;
+    pub(crate) safe fn pk_reduce64(x: u64, e: u32, y: u64, value: &mut u64) -> u32;
+    pub(crate) safe fn pk_reduce32(x: u32, e: u32, y: u32, value: &mut u32) -> u32;
     unsafe fn pk_list64(op: u32, xs: *const u64, xs_len: usize, ys: *mut u64, ys_len: usize)
         -> u32;
 }

@@ -1,6 +1,7 @@
 //! Scaling by a power of two.
 
 use crate::raw;
+use crate::Flags;
 
 /// `x` times 2^`n`, for every `n`, rounded once, on patterns of 64 bits.
 ///
@@ -20,6 +21,22 @@ pub fn scalbn32(x: u32, n: i32) -> u32 {
     raw::pk_scalbn32(x, n)
 }
 
+/// What [`scalbn64`] gives, with its flags: invalid for a signalling NaN; for a finite `x` inexact,
+/// overflow and underflow as `x` times 2^`n` is rounded.
+///
+/// ```
+/// let (value, flags) = paskerotim::scalbn64_flags(0x3ff0000000000000, 1024);
+/// assert_eq!((value, flags.to_string().as_str()), (0x7ff0000000000000, "OVERFLOW+INEXACT"));
+/// ```
+pub fn scalbn64_flags(x: u64, n: i32) -> (u64, Flags) {
+    Flags::of(|flags| raw::pk_scalbn64_flags(x, n, flags))
+}
+
+/// What [`scalbn32`] gives, with its flags; see [`scalbn64_flags`].
+pub fn scalbn32_flags(x: u32, n: i32) -> (u32, Flags) {
+    Flags::of(|flags| raw::pk_scalbn32_flags(x, n, flags))
+}
+
 /// [`scalbn64`] on numbers.
 pub fn scalbn(x: f64, n: i32) -> f64 {
     f64::from_bits(scalbn64(x.to_bits(), n))
@@ -28,4 +45,16 @@ pub fn scalbn(x: f64, n: i32) -> f64 {
 /// [`scalbn32`] on numbers.
 pub fn scalbnf(x: f32, n: i32) -> f32 {
     f32::from_bits(scalbn32(x.to_bits(), n))
+}
+
+/// [`scalbn64_flags`] on numbers.
+pub fn scalbn_flags(x: f64, n: i32) -> (f64, Flags) {
+    let (value, flags) = scalbn64_flags(x.to_bits(), n);
+    (f64::from_bits(value), flags)
+}
+
+/// [`scalbn32_flags`] on numbers.
+pub fn scalbnf_flags(x: f32, n: i32) -> (f32, Flags) {
+    let (value, flags) = scalbn32_flags(x.to_bits(), n);
+    (f32::from_bits(value), flags)
 }

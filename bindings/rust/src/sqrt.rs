@@ -1,7 +1,7 @@
 //! The square root.
 
 use crate::raw;
-use crate::{FpResult, Status};
+use crate::Flags;
 
 /// The root of `x`, rounded once, on patterns of 64 bits.
 ///
@@ -22,29 +22,24 @@ pub fn sqrt32(x: u32) -> u32 {
     raw::pk_sqrt32(x)
 }
 
-/// The root of `x` as [`sqrt64`] gives it, with its status: [`Status::Invalid`] for a NaN, quiet or
-/// signalling, and for every `x` below zero; [`Status::Ok`] for all else, whether the root is exact
-/// or not.
+/// The root of `x` as [`sqrt64`] gives it, with its flags: invalid for a signalling NaN and for every
+/// `x` below zero; inexact where the root is not exact. No other is raised.
 ///
 /// ```
-/// use paskerotim::{sqrt64_status, Status, NAN64};
+/// use paskerotim::{sqrt64_flags, Flags, NAN64};
 ///
-/// let answer = sqrt64_status(0xbff0000000000000);
-/// assert_eq!((answer.value, answer.status), (NAN64, Status::Invalid));
+/// let (root, flags) = sqrt64_flags(0x4000000000000000);
+/// assert_eq!((root, flags.inexact), (0x3ff6a09e667f3bcd, true));
+/// let invalid = Flags { invalid: true, ..Flags::NONE };
+/// assert_eq!(sqrt64_flags(0xbff0000000000000), (NAN64, invalid));
 /// ```
-pub fn sqrt64_status(x: u64) -> FpResult<u64> {
-    FpResult {
-        value: sqrt64(x),
-        status: Status::given(raw::pk_sqrt64_status(x)),
-    }
+pub fn sqrt64_flags(x: u64) -> (u64, Flags) {
+    Flags::of(|flags| raw::pk_sqrt64_flags(x, flags))
 }
 
-/// The root of `x` as [`sqrt32`] gives it, with its status; see [`sqrt64_status`].
-pub fn sqrt32_status(x: u32) -> FpResult<u32> {
-    FpResult {
-        value: sqrt32(x),
-        status: Status::given(raw::pk_sqrt32_status(x)),
-    }
+/// The root of `x` as [`sqrt32`] gives it, with its flags; see [`sqrt64_flags`].
+pub fn sqrt32_flags(x: u32) -> (u32, Flags) {
+    Flags::of(|flags| raw::pk_sqrt32_flags(x, flags))
 }
 
 /// [`sqrt64`] on numbers.
@@ -55,4 +50,16 @@ pub fn sqrt(x: f64) -> f64 {
 /// [`sqrt32`] on numbers.
 pub fn sqrtf(x: f32) -> f32 {
     f32::from_bits(sqrt32(x.to_bits()))
+}
+
+/// [`sqrt64_flags`] on numbers.
+pub fn sqrt_flags(x: f64) -> (f64, Flags) {
+    let (value, flags) = sqrt64_flags(x.to_bits());
+    (f64::from_bits(value), flags)
+}
+
+/// [`sqrt32_flags`] on numbers.
+pub fn sqrtf_flags(x: f32) -> (f32, Flags) {
+    let (value, flags) = sqrt32_flags(x.to_bits());
+    (f32::from_bits(value), flags)
 }

@@ -1,7 +1,7 @@
 //! The whole part.
 
 use crate::raw;
-use crate::{FpResult, Status};
+use crate::Flags;
 
 /// `x` without its fraction, exactly, with the sign of `x`, on patterns of 64 bits.
 ///
@@ -21,21 +21,15 @@ pub fn trunc32(x: u32) -> u32 {
     raw::pk_trunc32(x)
 }
 
-/// What [`trunc64`] gives, with its status: [`Status::Inexact`] where `x` is finite and the answer is
-/// another pattern; [`Status::Ok`] for all else, NaNs too.
-pub fn trunc64_status(x: u64) -> FpResult<u64> {
-    FpResult {
-        value: trunc64(x),
-        status: Status::given(raw::pk_trunc64_status(x)),
-    }
+/// What [`trunc64`] gives, with its flags: invalid for a signalling NaN; inexact where `x` is finite
+/// and the answer is another pattern. No other is raised.
+pub fn trunc64_flags(x: u64) -> (u64, Flags) {
+    Flags::of(|flags| raw::pk_trunc64_flags(x, flags))
 }
 
-/// What [`trunc32`] gives, with its status, by the rule of [`trunc64_status`].
-pub fn trunc32_status(x: u32) -> FpResult<u32> {
-    FpResult {
-        value: trunc32(x),
-        status: Status::given(raw::pk_trunc32_status(x)),
-    }
+/// What [`trunc32`] gives, with its flags, by the rule of [`trunc64_flags`].
+pub fn trunc32_flags(x: u32) -> (u32, Flags) {
+    Flags::of(|flags| raw::pk_trunc32_flags(x, flags))
 }
 
 /// [`trunc64`] on numbers.
@@ -46,4 +40,16 @@ pub fn trunc(x: f64) -> f64 {
 /// [`trunc32`] on numbers.
 pub fn truncf(x: f32) -> f32 {
     f32::from_bits(trunc32(x.to_bits()))
+}
+
+/// [`trunc64_flags`] on numbers.
+pub fn trunc_flags(x: f64) -> (f64, Flags) {
+    let (value, flags) = trunc64_flags(x.to_bits());
+    (f64::from_bits(value), flags)
+}
+
+/// [`trunc32_flags`] on numbers.
+pub fn truncf_flags(x: f32) -> (f32, Flags) {
+    let (value, flags) = trunc32_flags(x.to_bits());
+    (f32::from_bits(value), flags)
 }

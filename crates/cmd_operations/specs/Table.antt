@@ -5,25 +5,29 @@ use mathlib.Core.List.{List, [], _∷_}
 use lib.IntN.{ℤ, pos}
 use lib.ListN.{getD}
 use Rattle.ieee.specs.Format.{b64, b32}
-use Rattle.ieee.specs.Fma.{fmaOf}
+use Rattle.ieee.specs.Flags.{Flags, flagWord}
+use Rattle.ieee.specs.Fma.{fmaOf, fmaFlags}
 use Rattle.ieee.specs.Fmod.{fmodOf}
 use Rattle.ieee.specs.Reduction.{reduceOf}
 use Rattle.ieee.specs.Refusal.{numberOf, valueOf}
 use Rattle.ieee.specs.Remquo.{remquoOf, quotientOf}
-use Rattle.ieee.specs.Scalbn.{scalbnOf}
-use Rattle.ieee.specs.Sqrt.{sqrtOf, sqrtStatus}
-use Rattle.ieee.specs.Whole.{truncOf, truncStatus, floorOf, floorStatus}
+use Rattle.ieee.specs.Scalbn.{scalbnOf, scalbnFlags}
+use Rattle.ieee.specs.Sqrt.{sqrtOf, sqrtFlags}
+use Rattle.ieee.specs.Whole.{truncOf, truncFlags, floorOf, floorFlags}
 use Rattle.cmd_operations.specs.declared.line.Answers.{Answers}
 use Rattle.cmd_operations.specs.declared.request.Operands.{Operands}
 use Rattle.cmd_operations.specs.declared.table.Row.{Row}
 use Rattle.cmd_operations.specs.Naming.{bytesOf, Named, textOf, rowIn}
 
--- answers by their index, and a signed number after a word
+-- answers by their index, flags by their bits, and a signed number after a word
 abbrev pub one : ℕ → Answers
 one x = record { x = x; y = 0; z = 0; n = pos 0 }
 
 abbrev pub two : ℕ → ℕ → Answers
 two x y = record { x = x; y = y; z = 0; n = pos 0 }
+
+abbrev pub flagged : ℕ → Flags → Answers
+flagged x F = two x (flagWord F)
 
 abbrev pub signed : ℕ → ℤ → Answers
 signed x n = record { x = x; y = 0; z = 0; n = n }
@@ -42,21 +46,21 @@ operation name kinds answers = record { row = record { name = bytesOf name; kind
 -- in the order of their numbers; crates/cmd_operations/src/table.rt explains the kinds
 abbrev pub operations : List Operation
 operations =
-    operation "floor64" "W-- WF-" (λ a. two (floorOf b64 (a .x)) (floorStatus b64 (a .x)))
-    ∷ operation "floor32" "w-- wF-" (λ a. two (floorOf b32 (low (a .x))) (floorStatus b32 (low (a .x))))
-    ∷ operation "trunc64" "W-- WF-" (λ a. two (truncOf b64 (a .x)) (truncStatus b64 (a .x)))
-    ∷ operation "trunc32" "w-- wF-" (λ a. two (truncOf b32 (low (a .x))) (truncStatus b32 (low (a .x))))
-    ∷ operation "scalbn64" "WN- W--" (λ a. one (scalbnOf b64 (a .x) (a .n)))
-    ∷ operation "scalbn32" "wN- w--" (λ a. one (scalbnOf b32 (low (a .x)) (a .n)))
+    operation "floor64" "W-- WF-" (λ a. flagged (floorOf b64 (a .x)) (floorFlags b64 (a .x)))
+    ∷ operation "floor32" "w-- wF-" (λ a. flagged (floorOf b32 (low (a .x))) (floorFlags b32 (low (a .x))))
+    ∷ operation "trunc64" "W-- WF-" (λ a. flagged (truncOf b64 (a .x)) (truncFlags b64 (a .x)))
+    ∷ operation "trunc32" "w-- wF-" (λ a. flagged (truncOf b32 (low (a .x))) (truncFlags b32 (low (a .x))))
+    ∷ operation "scalbn64" "WN- WF-" (λ a. flagged (scalbnOf b64 (a .x) (a .n)) (scalbnFlags b64 (a .x) (a .n)))
+    ∷ operation "scalbn32" "wN- wF-" (λ a. flagged (scalbnOf b32 (low (a .x)) (a .n)) (scalbnFlags b32 (low (a .x)) (a .n)))
     ∷ operation "fmod64" "WW- W--" (λ a. one (fmodOf b64 (a .x) (a .y)))
     ∷ operation "fmod32" "ww- w--" (λ a. one (fmodOf b32 (low (a .x)) (low (a .y))))
     ∷ operation "remquo64" "WW- WN-" (λ a. signed (remquoOf b64 (a .x) (a .y)) (quotientOf b64 (a .x) (a .y)))
     ∷ operation "reduce64" "WUW UW-" (λ a. two (numberOf (reduceOf 64 (a .x) (low (a .y)) (a .z))) (valueOf (reduceOf 64 (a .x) (low (a .y)) (a .z))))
     ∷ operation "reduce32" "wUw Uw-" (λ a. two (numberOf (reduceOf 32 (low (a .x)) (low (a .y)) (low (a .z)))) (valueOf (reduceOf 32 (low (a .x)) (low (a .y)) (low (a .z)))))
-    ∷ operation "sqrt64" "W-- WF-" (λ a. two (sqrtOf b64 (a .x)) (sqrtStatus b64 (a .x)))
-    ∷ operation "sqrt32" "w-- wF-" (λ a. two (sqrtOf b32 (low (a .x))) (sqrtStatus b32 (low (a .x))))
-    ∷ operation "fma64" "WWW W--" (λ a. one (fmaOf b64 (a .x) (a .y) (a .z)))
-    ∷ operation "fma32" "www w--" (λ a. one (fmaOf b32 (low (a .x)) (low (a .y)) (low (a .z))))
+    ∷ operation "sqrt64" "W-- WF-" (λ a. flagged (sqrtOf b64 (a .x)) (sqrtFlags b64 (a .x)))
+    ∷ operation "sqrt32" "w-- wF-" (λ a. flagged (sqrtOf b32 (low (a .x))) (sqrtFlags b32 (low (a .x))))
+    ∷ operation "fma64" "WWW WF-" (λ a. flagged (fmaOf b64 (a .x) (a .y) (a .z)) (fmaFlags b64 (a .x) (a .y) (a .z)))
+    ∷ operation "fma32" "www wF-" (λ a. flagged (fmaOf b32 (low (a .x)) (low (a .y)) (low (a .z))) (fmaFlags b32 (low (a .x)) (low (a .y)) (low (a .z))))
     ∷ []
 
 abbrev pub rowsOf : List Operation → List Named

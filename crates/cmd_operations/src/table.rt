@@ -20,8 +20,8 @@ const TABLE: [u8; SIZE] = *b"floor64 W-- WF-
 floor32 w-- wF-
 trunc64 W-- WF-
 trunc32 w-- wF-
-scalbn64 WN- W--
-scalbn32 wN- w--
+scalbn64 WN- WF-
+scalbn32 wN- wF-
 fmod64 WW- W--
 fmod32 ww- w--
 remquo64 WW- WN-
@@ -29,8 +29,8 @@ reduce64 WUW UW-
 reduce32 wUw Uw-
 sqrt64 W-- WF-
 sqrt32 w-- wF-
-fma64 WWW W--
-fma32 www w--
+fma64 WWW WF-
+fma32 www wF-
 ";
 
 // The attributes of rounding by name, in the order of their numbers.

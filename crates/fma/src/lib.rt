@@ -1,3 +1,4 @@
 // fma: x times y plus z, rounded once.
+pub mod flags;
 pub mod fma;
 pub mod special;

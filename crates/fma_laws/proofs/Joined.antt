@@ -1,4 +1,4 @@
--- The signed sum of U, which is p times 2 ^ A, and W, which is q times 2 ^ B, in steps of 2 ^ -c: its count gives its sign and its rounding. Assumes nothing.
+-- The signed sum of U, which is p times 2 ^ A, and W, which is q times 2 ^ B, in steps of 2 ^ -c: its count gives its sign, its rounding and its flags. Assumes nothing.
 use Prim.Native.Nat.{ℕ, _+_, _*_, _^_, _≤_, _<_}
 use mathlib.Core.Path.{_≡_, sym, _∙_, subst}
 use mathlib.Core.Bool.{Bool}
@@ -7,17 +7,18 @@ use lib.Pow.{pow-add, pow-pos, pow-mono}
 use lib.IntN.{ℤ}
 use Rattle.algebra.proofs.Products.{mul-lt-cancel, mul-eq-cancel}
 use Rattle.algebra.proofs.Integers.{up, dn}
-use Rattle.ieee.specs.Format.{Format}
+use Rattle.ieee.specs.Format.{Format, Fair}
 use Rattle.ieee.specs.Pattern.{unlike, withSign}
 use Rattle.ieee.specs.Exact.{dyadic}
-use Rattle.ieee.specs.Round.{Attribute, answer}
+use Rattle.ieee.specs.Round.{Attribute}
 use Rattle.ieee.specs.Scalbn.{scaled}
 use Rattle.round_step.specs.Mark.{Marks}
-use Rattle.round_step.proofs.MarkedAnswers.{sticky-answer}
+use Rattle.round_step.specs.Outcome.{outcome}
+use Rattle.round_step.proofs.Outcomes.{sticky-outcome}
 use Rattle.fma_laws.specs.Aligned.{productAt, thirdAt, downBy, joined, joinedSign}
 use Rattle.fma_laws.proofs.Alignment.{Level, aligned, Sized, kept}
 use Rattle.fma_laws.proofs.Sums.{joined-times, sign-times, joined-marks, marks-some, marks-none, joined-sign}
-use Rattle.fma_laws.proofs.Forms.{finer-answer, counted-answer}
+use Rattle.fma_laws.proofs.Forms.{finer-outcome, counted-outcome}
 
 pub record Terms (h p q A B U W c : ℕ) (d : ℤ) : Type 0 where
   pub sizes : Sized h p q
@@ -48,12 +49,12 @@ module _ {h p q A B U W c : ℕ} {d : ℤ} (l : ℕ) (t : Terms h p q A B U W c 
       sym (sign-times s r U W (2 ^ c) (pow-pos c)) ∙ (λ i. joinedSign s r (t .first i) (t .second i)) ∙ joined-sign s r level (pow-pos (A + downBy l d)) some
 
 -- b is the exponent of the smallest unit; the step is 2 ^ n of them
-pub sum-answer : (f : Format) (g : Attribute) {p q A B U W c : ℕ} {d : ℤ} (l b : ℕ) (n : ℤ) → 2 ≤ f .frac → 2 + f .frac ≤ l
+pub sum-outcome : (f : Format) → Fair f → (g : Attribute) {p q A B U W c : ℕ} {d : ℤ} (l b : ℕ) (n : ℤ) → 2 ≤ f .frac → 2 + f .frac ≤ l
     → Terms (2 ^ f .frac) p q A B U W c d → up n + (b + c) ≡ dn n + (A + downBy l d)
     → (u z s : Bool) → 0 < joined u (productAt l p d) (thirdAt l q d)
-    → answer f g z (dyadic (withSign s (joined u U W)) b) ≡ answer f g s (scaled s (joined u (productAt l p d) (thirdAt l q d)) n)
-sum-answer f g {p} {q} {A} {B} {U} {W} {c} {d} l b n two room t e u z s some =
-    finer-answer f g z s (joined u U W) b c (sum-some l t u some)
+    → outcome f g z (dyadic (withSign s (joined u U W)) b) ≡ outcome f g s (scaled s (joined u (productAt l p d) (thirdAt l q d)) n)
+sum-outcome f i g {p} {q} {A} {B} {U} {W} {c} {d} l b n two room t e u z s some =
+    finer-outcome f i g z s (joined u U W) b c (sum-some l t u some)
     ∙ kept l (2 ^ f .frac) p q (t .sizes) four wide d A B (t .above) whole long
   where
     a : ℕ
@@ -72,13 +73,13 @@ sum-answer f g {p} {q} {A} {B} {U} {W} {c} {d} l b n two room t e u z s some =
     positive = marks-some (counts l t u) (pow-pos a) some
 
     whole : p * 2 ^ A ≡ productAt l p d * 2 ^ a → q * 2 ^ B ≡ thirdAt l q d * 2 ^ a
-        → answer f g z (dyadic (withSign s (joined u U W * 2 ^ c)) (b + c)) ≡ answer f g s (scaled s R n)
+        → outcome f g z (dyadic (withSign s (joined u U W * 2 ^ c)) (b + c)) ≡ outcome f g s (scaled s R n)
     whole v w =
-        counted-answer f g z s (joined u U W * 2 ^ c) R a (b + c) n positive e
+        counted-outcome f i g z s (joined u U W * 2 ^ c) R a (b + c) n positive e
         (grown l t u ∙ (λ i. joined u (v i) (w i)) ∙ joined-times u (productAt l p d) (thirdAt l q d) (2 ^ a))
 
     long : ((v : Bool) → 4 * 2 ^ f .frac ≤ joined v (productAt l p d) (thirdAt l q d))
-        → answer f g z (dyadic (withSign s (joined u U W * 2 ^ c)) (b + c)) ≡ answer f g s (scaled s R n)
+        → outcome f g z (dyadic (withSign s (joined u U W * 2 ^ c)) (b + c)) ≡ outcome f g s (scaled s R n)
     long w =
         let bits : 2 ^ (2 + f .frac) ≤ R = omega (arith, w u, pow-add 2 2 (f .frac)) in
-        sticky-answer f g z s (joined u U W * 2 ^ c) R a (b + c) n positive e (counts l t u) (λ i. bits)
+        sticky-outcome f i g z s (joined u U W * 2 ^ c) R a (b + c) n positive e (counts l t u) (λ _. bits)

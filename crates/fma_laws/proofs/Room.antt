@@ -1,6 +1,7 @@
 -- The sizes of the counts and the exponents of a fused sum. Assumes nothing.
 use Prim.Native.Nat.{ℕ, suc, _+_, _-_, _*_, _^_, _≤_, _<_, min}
 use mathlib.Core.Path.{_≡_, refl}
+use mathlib.Core.Bool.{Bool, true, false}
 use native.Mathlib.Nat.{mul-le-mul}
 use native.Mathlib.Omega.{arith}
 use lib.Pow.{pow-add, pow-pos, pow-mono}
@@ -15,7 +16,7 @@ use Rattle.fmt_decode.specs.Significand.{sigOf, expOf}
 use Rattle.fmt_decode.proofs.Significands.{normal-is}
 use Rattle.fmt_decode.proofs.Asides.{Ordinary}
 use Rattle.fmt_decode.proofs.Ranges.{low-small, exp-in-range, range-bounds}
-use Rattle.fma_laws.specs.Aligned.{productAt, thirdAt, downBy, addedExp}
+use Rattle.fma_laws.specs.Aligned.{productAt, thirdAt, downBy, joined, addedExp}
 use Rattle.fma_laws.specs.Fused.{productSig, thirdSig}
 
 -- ---- counts
@@ -85,3 +86,14 @@ module _ (a b : ℤ) (p : mag a < 2 ^ 18) (q : mag b < 2 ^ 18) where
   added-exp-small l =
       let k = downBy l (b -ℤ a) in
       magZ (a +ℤ pos k) (2 ^ 19 + 2 ^ 18) (omega (arith, addZ a (pos k), magZ-fact a p, down-less l)) (omega (arith, addZ a (pos k), magZ-fact a p, down-less l))
+
+-- a sum is at most that of the magnitudes
+pub joined-below : {k n : ℕ} (u : Bool) (a b : ℕ) → n ≡ joined u a b → a + b < k → n < k
+joined-below false a b e l = omega arith
+joined-below true a b e l = omega arith
+
+-- the exponent of a sum folded into one word
+pub folded-exp-small : (n : ℤ) (k : ℕ) → mag n < 2 ^ 19 + 2 ^ 18 → k ≤ 64 → mag (n +ℤ pos k) < 2 ^ 19 + 2 ^ 18 + 2 ^ 7
+folded-exp-small n k p q =
+    let bounds : (up (n +ℤ pos k) < 2 ^ 19 + 2 ^ 18 + 2 ^ 7 + dn (n +ℤ pos k)) × (dn (n +ℤ pos k) ≤ 2 ^ 19 + 2 ^ 18 + 2 ^ 7 + up (n +ℤ pos k)) = omega (arith, addZ n (pos k), magZ-fact n p) in
+    magZ (n +ℤ pos k) (2 ^ 19 + 2 ^ 18 + 2 ^ 7) (bounds .0) (bounds .1)

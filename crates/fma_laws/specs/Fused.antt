@@ -7,7 +7,9 @@ use Rattle.ieee.specs.Format.{Format, low}
 use Rattle.ieee.specs.Pattern.{minus, magnitude}
 use Rattle.ieee.specs.Round.{answer, ties-to-even}
 use Rattle.ieee.specs.Scalbn.{scaled}
-use Rattle.ieee.specs.Fma.{productSign}
+use Rattle.ieee.specs.Flags.{Flags, none, raised}
+use Rattle.ieee.specs.Fma.{fmaOf, fmaFlags, productSign}
+use Rattle.round_step.specs.Outcome.{outcome}
 use Rattle.fmt_decode.specs.Significand.{sigOf, expOf}
 use Rattle.fma_laws.specs.Aligned.{addedSteps, addedSign, addedExp}
 
@@ -47,6 +49,10 @@ abbrev pub fusedExp : Format → ℕ → ℕ → ℕ → ℕ → ℤ
 fusedExp f l x y z = addedExp l (productExp f x y) (expOf f z) +ℤ pos (low f) -ℤ pos 1
 
 -- a sum rounded once, where a sum of no steps is +0
-unfoldable pub roundedSum : Format → Bool → ℕ → ℤ → ℕ
-unfolding answer
-roundedSum f s n e = cond (eqb n 0) 0 (answer f ties-to-even s (scaled s n (e +ℤ pos (low f) -ℤ pos 1)))
+unfoldable pub roundedSum : Format → Bool → ℕ → ℤ → ℕ × Flags
+unfolding answer raised
+roundedSum f s n e = cond (eqb n 0) (0, none) (outcome f ties-to-even s (scaled s n (e +ℤ pos (low f) -ℤ pos 1)))
+
+-- what it is to be: the value and the flags of x times y plus z
+abbrev pub fmaGives : Format → ℕ → ℕ → ℕ → ℕ × Flags
+fmaGives f x y z = (fmaOf f x y z, fmaFlags f x y z)

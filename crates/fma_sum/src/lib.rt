@@ -1,4 +1,4 @@
-// The parts of x times y plus z of numbers, added and rounded once, over the format.
+// The parts of x times y plus z of numbers, added and located, over the format.
 pub mod sum;
 pub mod sum_wide;
 pub mod third;

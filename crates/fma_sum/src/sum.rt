@@ -1,13 +1,17 @@
-// A product and a third number added and rounded once, in formats of at most 23 fraction bits: one word holds every intermediate.
+// A product and a third number added, in formats of at most 23 fraction bits: one word holds every intermediate.
 ghost use mathlib.Core.Path.{_≡_};
 ghost use mathlib.Core.Bool.{false};
 ghost use Prim.Native.Nat.{_+_, _≤_, _<_, _^_};
+ghost use lib.IntN.{pos, _+ℤ_, _-ℤ_};
 ghost use lib.Signed.{mag};
+ghost use Rattle.ieee.specs.Format.{low};
 ghost use Rattle.ieee.specs.Fma.{productSign};
 ghost use Rattle.fmt_fields.specs.Width.{format, Fits};
 ghost use Rattle.fmt_decode.specs.Aside.{aside};
 ghost use Rattle.fma_laws.specs.Aligned.{addedSteps, addedSign, addedExp};
-ghost use Rattle.fma_laws.specs.Fused.{productSig, productExp, roundedSum};
+ghost use Rattle.fma_laws.specs.Fused.{productSig, productExp};
+ghost use Rattle.round_laws.specs.Location.{stretched};
+ghost use Rattle.round_locate.specs.Located.{Locates};
 use crate::units::exponent_in_units;
 use fma_align::align::align;
 use fma_align::product::Product;
@@ -15,7 +19,8 @@ use fma_align::product::multiply;
 use fma_align::sum::add_signed;
 use fmt_decode::norm::Norm;
 use fmt_decode::norm::norm_of;
-use round_step::round::round;
+use round_locate::locate::Located;
+use round_locate::locate::locate;
 use round_wide::fold::add_to_exponent;
 
 // So many steps of 2^exp, negative where neg is set.
@@ -53,14 +58,11 @@ pub fn add_third(p: Product, q: Norm) -> Sum
     }
 }
 
-// Rounds once. A sum of no steps has terms of unlike signs, so the answer is +0.
-pub fn round_sum(frac: u32, expo: u32, s: Sum) -> u64
-    requires { ⌜ Fits frac expo × (mag (s .exp) < 2 ^ 19 + 2 ^ 18) ⌝ }
-    ensures { λ r. ⌜ r ≡ roundedSum (format frac expo) (s .neg) (s .steps) (s .exp) ⌝ }
+// Its lower neighbour and its location.
+pub fn locate_sum(frac: u32, expo: u32, s: Sum) -> Located
+    requires { ⌜ Fits frac expo × (mag (s .exp) < 2 ^ 19 + 2 ^ 18 + 2 ^ 7) ⌝ }
+    ensures { λ r. ⌜ Locates (format frac expo) (stretched (s .steps) (s .exp +ℤ pos (low (format frac expo)) -ℤ pos 1)) r ⌝ }
 {
-    if s.steps == 0 {
-        return 0;
-    }
     let exp = exponent_in_units(frac, expo, s.exp);
-    round(frac, expo, s.neg, s.steps, exp)
+    locate(frac, expo, s.steps, exp)
 }

@@ -1,3 +1,4 @@
+pub mod Bits
 pub mod Decoded
 pub mod Normals
 pub mod Numbers

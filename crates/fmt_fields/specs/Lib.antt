@@ -1,2 +1,3 @@
 pub mod Width
 pub mod Normal
+pub mod Raised

@@ -5,6 +5,9 @@ use lib.Dec.{ltb}
 use Rattle.ieee.specs.Format.{Format}
 use Rattle.ieee.specs.Pattern.{field}
 
--- the field is neither that of zeros and subnormal numbers nor that of infinities and NaNs
+-- a field of e bits that is neither that of zeros and subnormal numbers nor that of infinities and NaNs
+abbrev pub normalField : ℕ → ℕ → Bool
+normalField e q = ltb 0 q && ltb q (2 ^ e - 1)
+
 abbrev pub normal : Format → ℕ → Bool
-normal f x = ltb 0 (field f x) && ltb (field f x) (2 ^ f .expo - 1)
+normal f x = normalField (f .expo) (field f x)

@@ -1,9 +1,9 @@
 // The fields of a pattern: exponent, fraction and sign; and a pattern made of a sign and a magnitude.
 ghost use mathlib.Core.Path.{_≡_};
-ghost use Prim.Native.Nat.{_+_, _<_, _^_};
+ghost use Prim.Native.Nat.{_+_, _≤_, _<_, _^_};
 ghost use Rattle.ieee.specs.Pattern.{minus, field, fraction, signed};
 ghost use Rattle.fmt_fields.specs.Width.{format, Fits};
-ghost use Rattle.fmt_fields.specs.Normal.{normal};
+ghost use Rattle.fmt_fields.specs.Normal.{normal, normalField};
 use word_bits::pow;
 
 pub mod env;
@@ -30,13 +30,20 @@ pub fn is_negative(frac: u32, expo: u32, x: u64) -> bool
     x >= pow(frac + expo)
 }
 
-// Whether x is a normal number. Less one, an exponent field of 0 wraps past all others.
+// Whether an exponent field is that of normal numbers. Less one, a field of 0 wraps past all others.
+pub fn is_normal_field(expo: u32, field: u64) -> bool
+    requires { ⌜ (2 ≤ expo) × (expo ≤ 16) ⌝ }
+    ensures { λ r. ⌜ r ≡ normalField expo field ⌝ }
+{
+    let last = pow(expo) - 2;
+    std::num::wrapping_sub_u64(field, 1) < last
+}
+
 pub fn is_normal(frac: u32, expo: u32, x: u64) -> bool
     requires { ⌜ Fits frac expo ⌝ }
     ensures { λ r. ⌜ r ≡ normal (format frac expo) x ⌝ }
 {
-    let last = pow(expo) - 2;
-    std::num::wrapping_sub_u64(exponent_field(frac, expo, x), 1) < last
+    is_normal_field(expo, exponent_field(frac, expo, x))
 }
 
 // The pattern of a sign and a magnitude.

@@ -1,15 +1,15 @@
 -- The worked cases, computed. Assumes nothing.
 use mathlib.Core.Path.{refl}
-use Rattle.ieee.specs.Sqrt.{sqrtOf, sqrtStatus}
-use Rattle.ieee.specs.Fma.{fmaOf}
-use Rattle.ieee.specs.Scalbn.{scalbnOf}
-use Rattle.ieee.specs.Whole.{floorOf, floorStatus, truncOf, truncStatus}
+use Rattle.ieee.specs.Sqrt.{sqrtOf, sqrtFlags}
+use Rattle.ieee.specs.Fma.{fmaOf, fmaFlags}
+use Rattle.ieee.specs.Scalbn.{scalbnOf, scalbnFlags}
+use Rattle.ieee.specs.Whole.{floorOf, floorFlags, truncOf, truncFlags}
 use Rattle.ieee.specs.Fmod.{fmodOf}
 use Rattle.ieee.specs.Remquo.{remquoOf, quotientOf}
 use Rattle.ieee.specs.Cases.{Cases}
 
 pub cases : Cases
-unfolding sqrtOf sqrtStatus floorOf floorStatus truncOf truncStatus fmodOf remquoOf quotientOf scalbnOf fmaOf
+unfolding sqrtOf sqrtFlags floorOf floorFlags truncOf truncFlags fmodOf remquoOf quotientOf scalbnOf scalbnFlags fmaOf fmaFlags
 cases =
     record {
       sqrt-two = (refl, refl);
@@ -23,8 +23,8 @@ cases =
       remquo-five-by-two = (refl, refl);
       remquo-minus-seven-by-two = (refl, refl);
       remquo-past-the-quotient = (refl, refl);
-      scalbn-tie = refl;
-      scalbn-past-the-tie = refl;
-      fma-square-less = refl;
-      fma-largest = refl;
+      scalbn-tie = (refl, refl);
+      scalbn-past-the-tie = (refl, refl);
+      fma-square-less = (refl, refl);
+      fma-largest = (refl, refl);
     }

@@ -41,6 +41,26 @@ module _ (f : Format) where
   fma-flags-rule g a x y z u v w p q r =
       subst₂ (FlagsRule f a (zeroSign f a x y z) (exactFma f x y z)) (sym (fma-answer f a x y z u v w p q r)) (sym (fma-flags a x y z u v w p q r)) (raised-rule f g a (zeroSign f a x y z) (exactFma f x y z))
 
+-- ---- zero by infinity
+-- kinds, told apart by numbers
+abbrev number : Kind → ℕ
+number nan = 0
+number infinite = 1
+number (finite u) = suc (suc u)
+
+module _ (f : Format) (x y : ℕ) where
+  -- neither zero by infinity nor infinity by zero
+  abbrev pub Apart : Type 0
+  Apart = (kind f x ≡ finite 0 → kind f y ≡ infinite → ⊥) × (kind f x ≡ infinite → kind f y ≡ finite 0 → ⊥)
+
+  pub infinite-apart : InfiniteProduct f x y → Apart
+  infinite-apart (of-both p q) = (λ e h. let n = ap number (sym p ∙ e) in omega (arith, n), λ e h. let n = ap number (sym q ∙ h) in omega (arith, n))
+  infinite-apart (of-first p q) = (λ e h. let n = ap number (sym p ∙ e) in omega (arith, n), λ e h. let n = ap number (sym q ∙ h) in omega (arith, n))
+  infinite-apart (of-second p q) = (λ e h. let n = ap number (sym p ∙ e) in omega (arith, n), λ e h. let n = ap number (sym q ∙ h) in omega (arith, n))
+
+  pub finite-apart : {u v : ℕ} → kind f x ≡ finite u → kind f y ≡ finite v → Apart
+  finite-apart p q = (λ e h. let n = ap number (sym q ∙ h) in omega (arith, n), λ e h. let n = ap number (sym p ∙ e) in omega (arith, n))
+
 -- ---- every other row
 module _ (f : Format) (a : Attribute) (x y z : ℕ) where
   abbrev s : Bool

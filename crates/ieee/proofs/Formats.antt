@@ -2,7 +2,7 @@
 use mathlib.Core.Path.{refl}
 use lib.Dec.{lit≤, lit<}
 use Rattle.ieee.specs.Format.{Fair, b16, b32, b64, units}
-use Rattle.ieee.specs.Numbers.{Numbers64, Numbers32, Statuses, FlagNumbers, Ends, Limits}
+use Rattle.ieee.specs.Numbers.{Numbers64, Numbers32, FlagNumbers, Ends, Limits}
 
 pub fair64 : Fair b64
 fair64 = record { frac-pos = lit≤ tt; expo-two = lit≤ tt; frac-fits = lit< tt }
@@ -20,9 +20,6 @@ numbers64 = record { fraction = refl; offset = refl; smallest = (refl, refl, ref
 pub numbers32 : Numbers32
 unfolding units
 numbers32 = record { fraction = refl; offset = refl; smallest = (refl, refl, refl); overflow = refl; quiet = refl }
-
-pub statuses : Statuses
-statuses = record { ok = refl; invalid = refl; inexact = refl }
 
 pub flag-numbers : FlagNumbers
 flag-numbers = record { nothing = refl; invalid = refl; division-by-zero = refl; overflow = refl; underflow = refl; inexact = refl }

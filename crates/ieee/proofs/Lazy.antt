@@ -3,11 +3,11 @@ use mathlib.Core.Path.{refl, ap}
 use native.Mathlib.Omega.{arith}
 use lib.IntN.{natAbs}
 use lib.ListN.{getD}
-use Rattle.ieee.specs.Flags.{wordOf}
+use Rattle.ieee.specs.Flags.{flagWord}
 use Rattle.ieee.specs.Sqrt.{sqrtOf, sqrtFlags}
 use Rattle.ieee.specs.Fma.{fmaOf, fmaFlags}
 use Rattle.ieee.specs.Scalbn.{scalbnOf, scalbnFlags}
-use Rattle.ieee.specs.Whole.{floorOf, truncOf, floorFlags, truncFlags, floorStatus, truncStatus}
+use Rattle.ieee.specs.Whole.{floorOf, truncOf, floorFlags, truncFlags}
 use Rattle.ieee.specs.Fmod.{fmodOf}
 use Rattle.ieee.specs.Remquo.{remquoOf, quotientOf}
 use Rattle.ieee.specs.Reduction.{reduceOf}
@@ -15,7 +15,7 @@ use Rattle.ieee.specs.Lists.{listOf}
 use Rattle.ieee.specs.Lazy.{Lazy64, Lazy32}
 
 pub lazy64 : Lazy64
-unfolding sqrtOf fmaOf fmodOf remquoOf quotientOf scalbnOf floorOf truncOf listOf reduceOf sqrtFlags fmaFlags scalbnFlags floorFlags truncFlags floorStatus truncStatus
+unfolding sqrtOf fmaOf fmodOf remquoOf quotientOf scalbnOf floorOf truncOf listOf reduceOf sqrtFlags fmaFlags scalbnFlags floorFlags truncFlags
 lazy64 =
     record {
       sqrt-nan = λ e. omega (arith, e);
@@ -32,24 +32,20 @@ lazy64 =
       reduction-refused = λ n. n refl;
       list-untouched = λ e. let z = ap (λ l. getD l 0 0) e in omega (arith, z);
       list-first-alone = λ r e. let z = ap (λ l. getD l 1 0) e in omega (arith, z);
-      floor-always-ok = λ e. omega (arith, e);
-      trunc-always-ok = λ e. omega (arith, e);
-      floor-never-ok = λ e. omega (arith, e);
-      trunc-never-ok = λ e. omega (arith, e);
-      sqrt-no-flag = λ e. let z = ap wordOf e in omega (arith, z);
-      fma-no-flag = λ e. let z = ap wordOf e in omega (arith, z);
-      scalbn-no-flag = λ e. let z = ap wordOf e in omega (arith, z);
-      floor-no-flag = λ e. let z = ap wordOf e in omega (arith, z);
-      trunc-no-flag = λ e. let z = ap wordOf e in omega (arith, z);
-      sqrt-always-inexact = λ e. let z = ap wordOf e in omega (arith, z);
-      fma-always-inexact = λ e. let z = ap wordOf e in omega (arith, z);
-      scalbn-always-inexact = λ e. let z = ap wordOf e in omega (arith, z);
-      floor-always-inexact = λ e. let z = ap wordOf e in omega (arith, z);
-      trunc-always-inexact = λ e. let z = ap wordOf e in omega (arith, z);
+      sqrt-no-flag = λ e. let z = ap flagWord e in omega (arith, z);
+      fma-no-flag = λ e. let z = ap flagWord e in omega (arith, z);
+      scalbn-no-flag = λ e. let z = ap flagWord e in omega (arith, z);
+      floor-no-flag = λ e. let z = ap flagWord e in omega (arith, z);
+      trunc-no-flag = λ e. let z = ap flagWord e in omega (arith, z);
+      sqrt-always-inexact = λ e. let z = ap flagWord e in omega (arith, z);
+      fma-always-inexact = λ e. let z = ap flagWord e in omega (arith, z);
+      scalbn-always-inexact = λ e. let z = ap flagWord e in omega (arith, z);
+      floor-always-inexact = λ e. let z = ap flagWord e in omega (arith, z);
+      trunc-always-inexact = λ e. let z = ap flagWord e in omega (arith, z);
     }
 
 pub lazy32 : Lazy32
-unfolding sqrtOf fmaOf fmodOf remquoOf quotientOf scalbnOf floorOf truncOf listOf reduceOf sqrtFlags fmaFlags scalbnFlags floorFlags truncFlags floorStatus truncStatus
+unfolding sqrtOf fmaOf fmodOf remquoOf quotientOf scalbnOf floorOf truncOf listOf reduceOf sqrtFlags fmaFlags scalbnFlags floorFlags truncFlags
 lazy32 =
     record {
       sqrt-nan = λ e. omega (arith, e);
@@ -66,18 +62,14 @@ lazy32 =
       reduction-refused = λ n. n refl;
       list-untouched = λ e. let z = ap (λ l. getD l 0 0) e in omega (arith, z);
       list-first-alone = λ r e. let z = ap (λ l. getD l 1 0) e in omega (arith, z);
-      floor-always-ok = λ e. omega (arith, e);
-      trunc-always-ok = λ e. omega (arith, e);
-      floor-never-ok = λ e. omega (arith, e);
-      trunc-never-ok = λ e. omega (arith, e);
-      sqrt-no-flag = λ e. let z = ap wordOf e in omega (arith, z);
-      fma-no-flag = λ e. let z = ap wordOf e in omega (arith, z);
-      scalbn-no-flag = λ e. let z = ap wordOf e in omega (arith, z);
-      floor-no-flag = λ e. let z = ap wordOf e in omega (arith, z);
-      trunc-no-flag = λ e. let z = ap wordOf e in omega (arith, z);
-      sqrt-always-inexact = λ e. let z = ap wordOf e in omega (arith, z);
-      fma-always-inexact = λ e. let z = ap wordOf e in omega (arith, z);
-      scalbn-always-inexact = λ e. let z = ap wordOf e in omega (arith, z);
-      floor-always-inexact = λ e. let z = ap wordOf e in omega (arith, z);
-      trunc-always-inexact = λ e. let z = ap wordOf e in omega (arith, z);
+      sqrt-no-flag = λ e. let z = ap flagWord e in omega (arith, z);
+      fma-no-flag = λ e. let z = ap flagWord e in omega (arith, z);
+      scalbn-no-flag = λ e. let z = ap flagWord e in omega (arith, z);
+      floor-no-flag = λ e. let z = ap flagWord e in omega (arith, z);
+      trunc-no-flag = λ e. let z = ap flagWord e in omega (arith, z);
+      sqrt-always-inexact = λ e. let z = ap flagWord e in omega (arith, z);
+      fma-always-inexact = λ e. let z = ap flagWord e in omega (arith, z);
+      scalbn-always-inexact = λ e. let z = ap flagWord e in omega (arith, z);
+      floor-always-inexact = λ e. let z = ap flagWord e in omega (arith, z);
+      trunc-always-inexact = λ e. let z = ap flagWord e in omega (arith, z);
     }

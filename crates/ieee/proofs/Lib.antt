@@ -19,6 +19,7 @@ pub mod Fmas
 pub mod Formats
 pub mod Held
 pub mod InRange
+pub mod Invalids
 pub mod Lazy
 pub mod ListCalls
 pub mod Local
@@ -51,7 +52,6 @@ pub mod Verdicts
 pub mod Ways
 pub mod WholeFlags
 pub mod WholeParts
-pub mod WholeStatuses
 pub mod Wholes
 pub mod WideEnough
 pub mod Wider

@@ -7,6 +7,7 @@ use native.Mathlib.Omega.{arith, both-ways}
 use borrow.Author.Tests.{lt-ltb, le-ltb, lt-leb, le-leb, eq-eqb, ne-eqb}
 use lib.Pow.{pow-add, pow-pos, pow-mono}
 use Rattle.algebra.proofs.Products.{order, diff}
+use Rattle.algebra.proofs.Powers.{pow-diff}
 use Rattle.algebra.proofs.Quotients.{mod-is}
 use Rattle.ieee.specs.Format.{Format, top, inf, canonical, units}
 use Rattle.ieee.specs.Pattern.{Pattern, minus, magnitude, signed, Kind, nan, infinite, finite, kind, withSign, value}
@@ -64,6 +65,12 @@ module _ (f : Format) where
   pub kind-finite : (x : ℕ) → magnitude f x < inf f → kind f x ≡ finite (units f (magnitude f x))
   unfolding kind
   kind-finite x l = rw (le-ltb (inf f) (magnitude f x) (omega arith), ne-eqb (magnitude f x) (inf f) (omega arith))
+
+  pub kind-canonical : 1 ≤ f .frac → kind f (canonical f) ≡ nan
+  kind-canonical l =
+      let h = pow-diff {a = f .frac} {b = 1} l in
+      let m : magnitude f (canonical f) ≡ canonical f = mod-eq-of-lt (omega (arith, infinity-top, pow-pos (f .frac - 1))) in
+      kind-nan (canonical f) (omega (arith, m, pow-pos (f .frac - 1)))
 
   -- the converse: the kind by the magnitude
   pub record Finite (x u : ℕ) : Type 0 where

@@ -8,7 +8,7 @@ use Rattle.ieee.specs.Format.{Format, Fair, units}
 use Rattle.ieee.specs.Pattern.{Pattern, minus, magnitude, Kind, nan, infinite, finite, kind}
 use Rattle.ieee.specs.Round.{Attribute}
 use Rattle.ieee.specs.Rule.{RuleIn}
-use Rattle.ieee.specs.Sqrt.{sqrtIn, sqrtStatus, exactSqrt}
+use Rattle.ieee.specs.Sqrt.{sqrtIn, exactSqrt}
 use Rattle.ieee.specs.SqrtRows.{SqrtRows}
 use Rattle.ieee.specs.Fma.{fmaIn, exactFma, zeroSign, InfiniteProduct, of-both, of-first, of-second, against}
 use Rattle.ieee.specs.FmaRows.{FmaRows}
@@ -16,12 +16,10 @@ use Rattle.ieee.specs.Scalbn.{scalbnIn, exactScalbn}
 use Rattle.ieee.specs.ScalbnRows.{ScalbnRows}
 use Rattle.ieee.specs.Whole.{truncOf, floorOf}
 use Rattle.ieee.specs.WholeRule.{Truncated, Floored, WholeRows, FloorRows}
-use Rattle.ieee.specs.StatusRows.{WholeStatusRows}
 use Rattle.ieee.specs.Fmod.{fmodOf}
 use Rattle.ieee.specs.FmodRule.{Left, FmodRows}
 use Rattle.ieee.specs.Remquo.{remquoOf, quotientOf}
 use Rattle.ieee.specs.RemquoRule.{NearestLeft, RemquoRows}
-use Rattle.ieee.proofs.Decide.{split, eqb-reads}
 use Rattle.ieee.proofs.Patterns.{finite-is}
 use Rattle.ieee.proofs.Attributes.{answer-met-unique}
 use Rattle.ieee.proofs.Sqrts.{sqrt-met, sqrt-rows}
@@ -38,22 +36,22 @@ same p e = p ∙ sym e
 both : {A B : Type 0} {r q d : A} {s t c : B} → (r ≡ d) × (s ≡ c) → (q ≡ d) × (t ≡ c) → (r ≡ q) × (s ≡ t)
 both p e = (same (p .0) (e .0), same (p .1) (e .1))
 
--- ---- sqrt and its status
-module _ (f : Format) (g : Fair f) (a : Attribute) (o s : ℕ → ℕ) (rows : SqrtRows f o s)
+-- ---- sqrt
+module _ (f : Format) (g : Fair f) (a : Attribute) (o : ℕ → ℕ) (rows : SqrtRows f o)
     (rule : (x u : ℕ) → kind f x ≡ finite u → (minus f x ≡ true → u ≡ 0) → RuleIn f a (minus f x) (exactSqrt f x) (o x)) where
   root : (x u : ℕ) → kind f x ≡ finite u → (minus f x ≡ true → u ≡ 0) → o x ≡ sqrtIn f a x
   root x u h z = answer-met-unique f g a (minus f x) (exactSqrt f x) (o x) (sqrtIn f a x) (rule x u h z) (sqrt-met f g a x u h z)
 
-  sqrt-by : (x : ℕ) → Pattern f x → (t : Bool) (k : Kind) → minus f x ≡ t → kind f x ≡ k → (o x ≡ sqrtIn f a x) × (s x ≡ sqrtStatus f x)
-  sqrt-by x p t nan e h = both (rows .of-nan x h) (sqrt-rows f a .of-nan x h)
-  sqrt-by x p false infinite e h = both (rows .of-infinity x h e) (sqrt-rows f a .of-infinity x h e)
-  sqrt-by x p true infinite e h = both (rows .of-minus-infinity x h e) (sqrt-rows f a .of-minus-infinity x h e)
-  sqrt-by x p t (finite zero) e h = (root x 0 h (λ m. refl), same (rows .of-zero x p h .1) (sqrt-rows f a .of-zero x p h .1))
-  sqrt-by x p false (finite (suc u)) e h = (root x (suc u) h (λ m. absurd (true≢false (sym m ∙ e))), same (rows .of-plus x u h e) (sqrt-rows f a .of-plus x u h e))
-  sqrt-by x p true (finite (suc u)) e h = both (rows .of-minus x u h e) (sqrt-rows f a .of-minus x u h e)
+  sqrt-by : (x : ℕ) → (t : Bool) (k : Kind) → minus f x ≡ t → kind f x ≡ k → o x ≡ sqrtIn f a x
+  sqrt-by x t nan e h = same (rows .of-nan x h) (sqrt-rows f a .of-nan x h)
+  sqrt-by x false infinite e h = same (rows .of-infinity x h e) (sqrt-rows f a .of-infinity x h e)
+  sqrt-by x true infinite e h = same (rows .of-minus-infinity x h e) (sqrt-rows f a .of-minus-infinity x h e)
+  sqrt-by x t (finite zero) e h = root x 0 h (λ m. refl)
+  sqrt-by x false (finite (suc u)) e h = root x (suc u) h (λ m. absurd (true≢false (sym m ∙ e)))
+  sqrt-by x true (finite (suc u)) e h = same (rows .of-minus x u h e) (sqrt-rows f a .of-minus x u h e)
 
-  pub sqrt-settled : (x : ℕ) → Pattern f x → (o x ≡ sqrtIn f a x) × (s x ≡ sqrtStatus f x)
-  sqrt-settled x p = sqrt-by x p (minus f x) (kind f x) refl refl
+  pub sqrt-settled : (x : ℕ) → o x ≡ sqrtIn f a x
+  sqrt-settled x = sqrt-by x (minus f x) (kind f x) refl refl
 
 -- ---- fma
 module _ (f : Format) (g : Fair f) (a : Attribute) (x y z r : ℕ) (rows : FmaRows f a x y z r)
@@ -115,19 +113,6 @@ module _ (f : Format) (g : Fair f) (o : ℕ → ℕ) where
 
   pub floor-settled : FloorRows f o → ((x u : ℕ) → kind f x ≡ finite u → Floored f x (o x)) → (x : ℕ) → o x ≡ floorOf f x
   floor-settled rows rule x = floor-by rows rule x (kind f x) refl
-
--- their statuses: two that go with one operation
-module _ (f : Format) (o s t : ℕ → ℕ) (p : WholeStatusRows f o s) (q : WholeStatusRows f o t) where
-  status-by : (x : ℕ) (k : Kind) → kind f x ≡ k → s x ≡ t x
-  status-by x nan h = same (p .of-nan x h) (q .of-nan x h)
-  status-by x infinite h = same (p .of-infinity x h) (q .of-infinity x h)
-  status-by x (finite u) h =
-      split (eqb-reads (o x) x)
-      (λ e. same (p .same x u h .1 e) (q .same x u h .1 e))
-      (λ n. same (p .changed x u h .1 n) (q .changed x u h .1 n))
-
-  pub whole-status-settled : (x : ℕ) → s x ≡ t x
-  whole-status-settled x = status-by x (kind f x) refl
 
 -- ---- fmod
 module _ (f : Format) (o : ℕ → ℕ → ℕ) (rows : FmodRows f o) (rule : (x y u v : ℕ) → kind f x ≡ finite u → kind f y ≡ finite (suc v) → Left f x y (o x y)) where

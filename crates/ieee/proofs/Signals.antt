@@ -36,7 +36,7 @@ module _ (f : Format) (g : Fair f) where
       omega arith
 
   -- a NaN signals exactly when its magnitude is below that of the canonical NaN
-  signals-reads : (x : ℕ) → Reads ((inf f < magnitude f x) × (magnitude f x < canonical f)) (signals f x)
+  pub signals-reads : (x : ℕ) → Reads ((inf f < magnitude f x) × (magnitude f x < canonical f)) (signals f x)
   signals-reads x =
       reads-as (
         λ h. (h .0, omega (arith, fraction-is x (h .0), h .1)),

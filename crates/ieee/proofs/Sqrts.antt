@@ -5,14 +5,13 @@ use mathlib.Core.Bool.{Bool, true, false}
 use native.Mathlib.Omega.{arith}
 use lib.IntN.{natAbs}
 use Rattle.ieee.specs.Format.{Format, Fair, low}
-use Rattle.ieee.specs.Pattern.{Pattern, minus, Kind, finite, kind}
+use Rattle.ieee.specs.Pattern.{Pattern, minus, Kind, nan, finite, kind}
 use Rattle.ieee.specs.Exact.{surd}
 use Rattle.ieee.specs.Round.{Attribute, ties-to-even, answer}
 use Rattle.ieee.specs.Rule.{to-even, Once, RuleIn}
-use Rattle.ieee.specs.Status.{OK}
-use Rattle.ieee.specs.Sqrt.{rootOf, exactSqrt, sqrtBy, sqrtIn, sqrtOf, sqrtStatusBy, sqrtStatus}
+use Rattle.ieee.specs.Sqrt.{rootOf, exactSqrt, sqrtBy, sqrtIn, sqrtOf}
 use Rattle.ieee.specs.SqrtRows.{SqrtRows}
-use Rattle.ieee.proofs.Patterns.{zero-is, value-finite}
+use Rattle.ieee.proofs.Patterns.{kind-canonical, zero-is, value-finite}
 use Rattle.ieee.proofs.Signs.{abs-signed}
 use Rattle.ieee.proofs.Exacts.{answer-root-zero}
 use Rattle.ieee.proofs.Attributes.{answer-met}
@@ -21,10 +20,6 @@ module _ (f : Format) where
   sqrt-by : (a : Attribute) (x : ℕ) {s : Bool} {k : Kind} → minus f x ≡ s → kind f x ≡ k → sqrtIn f a x ≡ sqrtBy f a x s k
   unfolding sqrtIn
   sqrt-by a x e h = λ i. sqrtBy f a x (e i) (h i)
-
-  status-by : (x : ℕ) {s : Bool} {k : Kind} → minus f x ≡ s → kind f x ≡ k → sqrtStatus f x ≡ sqrtStatusBy s k
-  unfolding sqrtStatus
-  status-by x e h = λ i. sqrtStatusBy (e i) (h i)
 
   pub root-exact : (x u : ℕ) → kind f x ≡ finite u → rootOf f u ≡ exactSqrt f x
   root-exact x u h = ap (λ n. surd (n * 2 ^ low f)) (sym (ap natAbs (value-finite f x u h) ∙ abs-signed (minus f x) u))
@@ -56,21 +51,18 @@ module _ (f : Format) where
       let e : 0 * 2 ^ low f ≡ 0 = omega arith in
       sqrt-root a x 0 h (λ m. refl) ∙ ap (λ n. answer f a (minus f x) (surd n)) e ∙ answer-root-zero f a (minus f x) ∙ zero-is f x p h
 
-  status-zero : (x : ℕ) → kind f x ≡ finite 0 → sqrtStatus f x ≡ OK
-  unfolding sqrtStatusBy
-  status-zero x h = go (minus f x) refl
-    where
-      go : (s : Bool) → minus f x ≡ s → sqrtStatus f x ≡ OK
-      go s e = status-by x e h
-
-pub sqrt-rows : (f : Format) (a : Attribute) → SqrtRows f (sqrtIn f a) (sqrtStatus f)
-unfolding sqrtBy sqrtStatusBy
+pub sqrt-rows : (f : Format) (a : Attribute) → SqrtRows f (sqrtIn f a)
+unfolding sqrtBy
 sqrt-rows f a =
     record {
-      of-nan = λ x h. (sqrt-by f a x refl h, status-by f x refl h);
-      of-infinity = λ x h m. (sqrt-by f a x m h, status-by f x m h);
-      of-minus-infinity = λ x h m. (sqrt-by f a x m h, status-by f x m h);
-      of-zero = λ x p h. (sqrt-zero f a x p h, status-zero f x h);
-      of-minus = λ x u h m. (sqrt-by f a x m h, status-by f x m h);
-      of-plus = λ x u h m. status-by f x m h;
+      of-nan = λ x h. sqrt-by f a x refl h;
+      of-infinity = λ x h m. sqrt-by f a x m h;
+      of-minus-infinity = λ x h m. sqrt-by f a x m h;
+      of-zero = λ x p h. sqrt-zero f a x p h;
+      of-minus = λ x u h m. sqrt-by f a x m h;
     }
+
+-- a number whose root is no NaN is not below zero
+pub rooted-not-below : (f : Format) → Fair f → (a : Attribute) (x u : ℕ) → kind f x ≡ finite u → (kind f (sqrtIn f a x) ≡ nan → ⊥) → minus f x ≡ true → u ≡ 0
+rooted-not-below f g a x zero h n m = refl
+rooted-not-below f g a x (suc u) h n m = absurd (n (ap (kind f) (sqrt-rows f a .of-minus x u h m) ∙ kind-canonical f (g .frac-pos)))

@@ -4,6 +4,7 @@ use mathlib.Core.Bool.{true, false}
 use lib.IntN.{pos, negsuc}
 use Rattle.ieee.specs.Format.{Format, Fair, b64}
 use Rattle.ieee.specs.Flags.{none, onlyInvalid, onlyInexact, judged}
+use Rattle.ieee.specs.Sqrt.{sqrtFlags}
 use Rattle.ieee.specs.Whole.{floorFlags, truncFlags}
 use Rattle.ieee.specs.Rounded.{answered, sqrtRounded, fmaRounded, scalbnRounded}
 
@@ -18,6 +19,8 @@ threeThree = record { frac = 3; expo = 3 }
 pub record FlagCases : Type 0 where
   pub root-of-two : (sqrtRounded b64 0 0x4000000000000000 ≡ answered 0x3ff6a09e667f3bcd (onlyInexact true)) × (sqrtRounded b64 2 0x4000000000000000 ≡ answered 0x3ff6a09e667f3bcc (onlyInexact true))
   pub root-of-four : sqrtRounded b64 3 0x4010000000000000 ≡ answered 0x4000000000000000 none
+  -- -1 and -infinity are below zero, and -0 is not
+  pub root-below-zero : (sqrtFlags b64 0xbff0000000000000 ≡ onlyInvalid) × (sqrtFlags b64 0xfff0000000000000 ≡ onlyInvalid) × (sqrtFlags b64 0x8000000000000000 ≡ none) × (sqrtFlags b64 0x7ff0000000000000 ≡ none)
   -- (2 - 2 ^ -52) times 2 ^ -1023 lies midway between the largest subnormal number and the least normal one: tiny, though the answer may be normal
   pub tiny-normal : (scalbnRounded b64 0 0x3fffffffffffffff (negsuc 1022) ≡ answered 0x0010000000000000 (judged false true true))
       × (scalbnRounded b64 1 0x3fffffffffffffff (negsuc 1022) ≡ answered 0x000fffffffffffff (judged false true true))
@@ -31,10 +34,14 @@ pub record FlagCases : Type 0 where
   -- 1 - 1
   pub zero-sum : (fmaRounded b64 2 0x3ff0000000000000 0x3ff0000000000000 0xbff0000000000000 ≡ answered 0x8000000000000000 none)
       × (fmaRounded b64 3 0x3ff0000000000000 0x3ff0000000000000 0xbff0000000000000 ≡ answered 0 none)
+  -- 1 times infinity less infinity
+  pub infinities : fmaRounded b64 0 0x3ff0000000000000 0x7ff0000000000000 0xfff0000000000000 ≡ answered 0x7ff8000000000000 onlyInvalid
   -- zero times infinity plus a quiet NaN is invalid; a quiet NaN alone is not, a signalling one is
   pub clash : fmaRounded b64 0 0 0x7ff0000000000000 0x7ff8000000000000 ≡ answered 0x7ff8000000000000 onlyInvalid
   pub quiet : fmaRounded b64 0 0 0 0x7ff8000000000000 ≡ answered 0x7ff8000000000000 none
   pub signalling : fmaRounded b64 0 0 0 0x7ff0000000000001 ≡ answered 0x7ff8000000000000 onlyInvalid
+  pub root-of-nan : (sqrtFlags b64 0x7ff8000000000000 ≡ none) × (sqrtFlags b64 0xfff8000000000001 ≡ none) × (sqrtFlags b64 0x7ff0000000000001 ≡ onlyInvalid)
+  pub whole-of-nan : (floorFlags b64 0x7ff8000000000000 ≡ none) × (floorFlags b64 0x7ff0000000000001 ≡ onlyInvalid) × (truncFlags b64 0x7ff8000000000000 ≡ none) × (truncFlags b64 0x7ff0000000000001 ≡ onlyInvalid)
   pub floor-of-half : (floorFlags b64 0x3fe0000000000000 ≡ onlyInexact true) × (truncFlags b64 0x3fe0000000000000 ≡ onlyInexact true) × (floorFlags b64 0x4000000000000000 ≡ none)
   -- fair formats whose smallest number, 2 ^ -1 and 2 ^ -5, has a root that underflows
   pub root-underflows : Fair oneTwo × Fair threeThree × (sqrtRounded oneTwo 0 1 ≡ answered 1 (judged false true true)) × (sqrtRounded threeThree 0 1 ≡ answered 6 (judged false true true))

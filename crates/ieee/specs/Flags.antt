@@ -24,8 +24,8 @@ abbrev pub onlyInexact : Bool → Flags
 onlyInexact b = record { invalid = false; division-by-zero = false; overflow = false; underflow = false; inexact = b }
 
 -- the flags as one number: 1, 4, 8, 16 and 32
-abbrev pub wordOf : Flags → ℕ
-wordOf r = cond (r .invalid) 1 0 + cond (r .division-by-zero) 4 0 + cond (r .overflow) 8 0 + cond (r .underflow) 16 0 + cond (r .inexact) 32 0
+abbrev pub flagWord : Flags → ℕ
+flagWord r = cond (r .invalid) 1 0 + cond (r .division-by-zero) 4 0 + cond (r .overflow) 8 0 + cond (r .underflow) 16 0 + cond (r .inexact) 32 0
 
 -- a signalling NaN (clause 6.2.1): a NaN whose fraction begins with 0
 abbrev pub signals : Format → ℕ → Bool

@@ -9,8 +9,7 @@ use Rattle.ieee.specs.Flags.{none, onlyInexact}
 use Rattle.ieee.specs.Sqrt.{sqrtOf, sqrtFlags}
 use Rattle.ieee.specs.Fma.{fmaOf, fmaFlags}
 use Rattle.ieee.specs.Scalbn.{scalbnOf, scalbnFlags}
-use Rattle.ieee.specs.Status.{OK, INEXACT}
-use Rattle.ieee.specs.Whole.{floorOf, truncOf, floorFlags, truncFlags, floorStatus, truncStatus}
+use Rattle.ieee.specs.Whole.{floorOf, truncOf, floorFlags, truncFlags}
 use Rattle.ieee.specs.Fmod.{fmodOf}
 use Rattle.ieee.specs.Remquo.{remquoOf, quotientOf}
 use Rattle.ieee.specs.Refusal.{numberOf}
@@ -38,11 +37,6 @@ pub record Lazy (f : Format) (w half one two four marked : ℕ) : Type 0 where
   -- the output untouched, and the first place alone filled
   pub list-untouched : listOf f 1 (four ∷ []) (0 ∷ []) .output ≡ 0 ∷ [] → ⊥
   pub list-first-alone : (r : ℕ) → listOf f 1 (four ∷ four ∷ []) (0 ∷ 0 ∷ []) .output ≡ r ∷ 0 ∷ [] → ⊥
-  -- always OK, and always INEXACT
-  pub floor-always-ok : floorStatus f half ≡ OK → ⊥
-  pub trunc-always-ok : truncStatus f half ≡ OK → ⊥
-  pub floor-never-ok : floorStatus f one ≡ INEXACT → ⊥
-  pub trunc-never-ok : truncStatus f one ≡ INEXACT → ⊥
   -- no flag ever, and always inexact
   pub sqrt-no-flag : sqrtFlags f two ≡ none → ⊥
   pub fma-no-flag : fmaFlags f one one 1 ≡ none → ⊥

@@ -10,6 +10,7 @@ pub mod FmaRows
 pub mod Fmod
 pub mod FmodRule
 pub mod Format
+pub mod Invalid
 pub mod Lazy
 pub mod ListRule
 pub mod Lists
@@ -29,7 +30,5 @@ pub mod Scalbn
 pub mod ScalbnRows
 pub mod Sqrt
 pub mod SqrtRows
-pub mod Status
-pub mod StatusRows
 pub mod Whole
 pub mod WholeRule

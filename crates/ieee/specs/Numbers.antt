@@ -1,11 +1,10 @@
--- The numbers of binary64 and binary32, of the statuses, of the flags and of the limits. Assumes nothing.
+-- The numbers of binary64 and binary32, of the flags and of the limits. Assumes nothing.
 use Prim.Native.Nat.{ℕ, _+_, _-_, _*_, _^_}
 use mathlib.Core.Path.{_≡_}
 use mathlib.Core.Bool.{true, false}
 use Rattle.ieee.specs.Format.{Format, b64, b32, bias, low, units, canonical}
 use Rattle.ieee.specs.Rule.{halfway}
-use Rattle.ieee.specs.Flags.{none, onlyInvalid, onlyInexact, judged, wordOf, largest, leastNormal}
-use Rattle.ieee.specs.Status.{OK, INVALID, INEXACT}
+use Rattle.ieee.specs.Flags.{none, onlyInvalid, onlyInexact, judged, flagWord, largest, leastNormal}
 use Rattle.ieee.specs.Reduction.{shiftLimit, divisorLimit}
 use Rattle.ieee.specs.Lists.{listLimit}
 
@@ -23,19 +22,14 @@ Numbers64 = Numbers b64 52 1023 1074 (2 ^ 1024 - 2 ^ 970) 0x7ff8000000000000 0x3
 abbrev pub Numbers32 : Type 0
 Numbers32 = Numbers b32 23 127 149 (2 ^ 128 - 2 ^ 103) 0x7fc00000 0x3f800000
 
-pub record Statuses : Type 0 where
-  pub ok : OK ≡ 0
-  pub invalid : INVALID ≡ 1
-  pub inexact : INEXACT ≡ 32
-
 -- a number for each flag, and for flags together their sum
 pub record FlagNumbers : Type 0 where
-  pub nothing : wordOf none ≡ 0
-  pub invalid : wordOf onlyInvalid ≡ 1
-  pub division-by-zero : wordOf (record { invalid = false; division-by-zero = true; overflow = false; underflow = false; inexact = false }) ≡ 4
-  pub overflow : wordOf (judged true false true) ≡ 8 + 32
-  pub underflow : wordOf (judged false true true) ≡ 16 + 32
-  pub inexact : wordOf (onlyInexact true) ≡ 32
+  pub nothing : flagWord none ≡ 0
+  pub invalid : flagWord onlyInvalid ≡ 1
+  pub division-by-zero : flagWord (record { invalid = false; division-by-zero = true; overflow = false; underflow = false; inexact = false }) ≡ 4
+  pub overflow : flagWord (judged true false true) ≡ 8 + 32
+  pub underflow : flagWord (judged false true true) ≡ 16 + 32
+  pub inexact : flagWord (onlyInexact true) ≡ 32
 
 -- the ends that flags are judged by: the largest finite number and the least normal one, as patterns
 pub record Ends : Type 0 where

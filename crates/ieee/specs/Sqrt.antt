@@ -7,7 +7,6 @@ use Rattle.ieee.specs.Pattern.{Kind, nan, infinite, finite, kind, minus,
 use Rattle.ieee.specs.Exact.{Value, surd}
 use Rattle.ieee.specs.Round.{Attribute, ties-to-even, answer}
 use Rattle.ieee.specs.Flags.{Flags, none, onlyInvalid, nanFlags, signals, raised}
-use Rattle.ieee.specs.Status.{OK, INVALID}
 
 -- the exact root of u units: r units where r r = u 2 ^ low, since a unit is 2 ^ -low
 abbrev pub rootOf : Format → ℕ → Value
@@ -30,19 +29,6 @@ sqrtIn f a x = sqrtBy f a x (minus f x) (kind f x)
 unfoldable pub sqrtOf : Format → ℕ → ℕ
 unfolding sqrtIn
 sqrtOf f x = sqrtIn f ties-to-even x
-
--- INVALID for every NaN and for every number below zero, and OK for all else, exact or not
-unfoldable pub sqrtStatusBy : Bool → Kind → ℕ
-sqrtStatusBy s nan = INVALID
-sqrtStatusBy false infinite = OK
-sqrtStatusBy true infinite = INVALID
-sqrtStatusBy s (finite zero) = OK
-sqrtStatusBy false (finite (suc u)) = OK
-sqrtStatusBy true (finite (suc u)) = INVALID
-
-unfoldable pub sqrtStatus : Format → ℕ → ℕ
-unfolding sqrtStatusBy kind
-sqrtStatus f x = sqrtStatusBy (minus f x) (kind f x)
 
 -- ---- the flags (clause 7.2): invalid for a signalling NaN, and below zero; n says that x signals
 unfoldable pub sqrtFlagsBy : Format → Attribute → Bool → Bool → Kind → Flags

@@ -6,7 +6,6 @@ use Rattle.ieee.specs.Format.{Format, low, canonical}
 use Rattle.ieee.specs.Pattern.{Kind, nan, infinite, finite, kind, minus, signed}
 use Rattle.ieee.specs.Round.{Way, even, away, shorter, longer, Attribute, toward-zero, toward-negative, wayOf, rounded, exactly}
 use Rattle.ieee.specs.Flags.{Flags, none, onlyInexact, nanFlags, signals}
-use Rattle.ieee.specs.Status.{OK, INEXACT}
 
 -- n / d as a whole number, the way w
 abbrev pub whole : Way → ℕ → ℕ → ℕ
@@ -51,15 +50,3 @@ truncFlags f x = wholeFlagsIn f toward-zero x
 unfoldable pub floorFlags : Format → ℕ → Flags
 unfolding wholeFlagsIn
 floorFlags f x = wholeFlagsIn f toward-negative x
-
--- ---- the status of the answer r to x: INEXACT where inexact is raised, and OK where it is not
-abbrev pub wholeStatus : Format → ℕ → ℕ → ℕ
-wholeStatus f x r = cond (wholeFlagsBy f x r (kind f x) .inexact) INEXACT OK
-
-unfoldable pub truncStatus : Format → ℕ → ℕ
-unfolding truncOf wholeFlagsBy kind
-truncStatus f x = wholeStatus f x (truncOf f x)
-
-unfoldable pub floorStatus : Format → ℕ → ℕ
-unfolding floorOf wholeFlagsBy kind
-floorStatus f x = wholeStatus f x (floorOf f x)

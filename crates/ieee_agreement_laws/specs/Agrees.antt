@@ -1,6 +1,6 @@
 -- Our definitions agree with the toolchain's account of IEEE 754, at each of its two formats: the statements. Assumes nothing.
 --
--- Its NaN has no payload, it rounds only to the nearest even, and it has no status: nothing is said of payloads, other attributes and statuses.
+-- Its NaN has no payload, it rounds only to the nearest even, and it has no flags: nothing is said of payloads, other attributes and flags.
 use Prim.Native.Nat.{ℕ, suc, _+_, _*_, _%_, _^_, _<_}
 use mathlib.Core.Path.{_≡_}
 use mathlib.Core.Logic.{_↔_}

@@ -99,6 +99,13 @@ module _ {p e : ℕ} (w : Fits p e) where
   pub rest-stays : (x i j : ℕ) → i ≡ inf (format p e) → j ≡ magnitude (format p e) i * 2 ^ room → magnitude (format p e) x * 2 ^ room ≤ j → oneNan (format p e) x ≡ x
   rest-stays x i j a b h = not-past (format p e) x (mul-le-cancel (magnitude (format p e) x) (inf (format p e)) (2 ^ room) (pow-pos room) (omega (arith, inf-out i j a b)))
 
+  -- shifted magnitudes lie as the magnitudes do
+  pub number-out : (x i j : ℕ) → i ≡ inf (format p e) → j ≡ magnitude (format p e) i * 2 ^ room → magnitude (format p e) x * 2 ^ room < j → magnitude (format p e) x < inf (format p e)
+  number-out x i j a b h = mul-lt-cancel (magnitude (format p e) x) (inf (format p e)) (2 ^ room) (omega (arith, inf-out i j a b))
+
+  pub rest-out : (x i j : ℕ) → i ≡ inf (format p e) → j ≡ magnitude (format p e) i * 2 ^ room → j ≤ magnitude (format p e) x * 2 ^ room → inf (format p e) ≤ magnitude (format p e) x
+  rest-out x i j a b h = mul-le-cancel (inf (format p e)) (magnitude (format p e) x) (2 ^ room) (pow-pos room) (omega (arith, inf-out i j a b))
+
   -- a shifted magnitude is 0 exactly where the magnitude is
   pub none-out : (x : ℕ) → magnitude (format p e) x * 2 ^ room ≡ 0 → magnitude (format p e) x ≡ 0
   none-out x z = omega (arith, mul-le-cancel (magnitude (format p e) x) 0 (2 ^ room) (pow-pos room) (omega (arith, z)))

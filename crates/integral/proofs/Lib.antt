@@ -3,3 +3,4 @@ mod Scaled
 pub mod Choices
 pub mod Masks
 pub mod Method
+pub mod Raises

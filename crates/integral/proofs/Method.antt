@@ -1,25 +1,31 @@
--- The code computes trunc, floor and their status, over the format. Assumes nothing.
+-- The code computes trunc and floor, over the format. Assumes nothing.
 use Prim.Native.Nat.{ℕ, suc, _+_, _-_, _*_, _/_, _%_, _^_, _≤_, _<_}
 use mathlib.Core.Path.{_≡_, refl, sym, ap, _∙_}
-use mathlib.Core.Bool.{true, cond}
+use mathlib.Core.Bool.{Bool, true, false, cond}
 use native.Mathlib.Nat.{mod-eq-of-lt}
-use native.Mathlib.Omega.{arith, both-ways}
+use native.Mathlib.Omega.{arith}
 use lib.Bits.{bitAnd}
+use lib.Dec.{ltb}
 use lib.Pow.{pow-pos, pow-mono}
-use borrow.Author.Tests.{le-leb, lt-leb, eq-eqb, ne-eqb}
+use borrow.Author.Tests.{le-leb, lt-leb, le-ltb, eq-eqb, ne-eqb}
 use Rattle.algebra.proofs.Products.{order, times, times-le}
 use Rattle.algebra.proofs.Quotients.{div-mod, div-is, mod-is}
 use Rattle.ieee.specs.Format.{Format, Fair, top, bias, low, inf, units}
-use Rattle.ieee.specs.Pattern.{Pattern, minus, magnitude, field, signed, finite}
+use Rattle.ieee.specs.Pattern.{Pattern, minus, magnitude, field, signed, Kind, nan, infinite, finite, kind}
 use Rattle.ieee.specs.Round.{toward-zero, toward-negative, wayOf}
-use Rattle.ieee.specs.Status.{OK, INEXACT}
-use Rattle.ieee.specs.Whole.{whole, truncOf, floorOf, truncStatus}
+use Rattle.ieee.specs.Flags.{Flags, signals}
+use Rattle.ieee.specs.FlagRows.{WholeFlagRows}
+use Rattle.ieee.specs.Whole.{whole, truncOf, floorOf, truncFlags, floorFlags}
+use Rattle.ieee.proofs.Decide.{Reads, holds, is-true, leb-reads}
 use Rattle.ieee.proofs.Units.{units-zero, units-lt}
 use Rattle.ieee.proofs.Fields.{magnitude-fields, fraction-small}
-use Rattle.ieee.proofs.Patterns.{inf-below-top, kind-finite, kind-infinite, kind-nan}
+use Rattle.ieee.proofs.Patterns.{inf-below-top, kind-finite, finite-is, nan-is, infinite-is}
 use Rattle.ieee.proofs.WholeParts.{zero-stays}
 use Rattle.ieee.proofs.Wholes.{longer-one}
-use Rattle.ieee.proofs.WholeStatuses.{trunc-status-rows}
+use Rattle.ieee.proofs.Raised.{same-when}
+use Rattle.ieee.proofs.Signals.{infinite-silent, finite-silent}
+use Rattle.ieee.proofs.Verdicts.{reads-as}
+use Rattle.ieee.proofs.WholeFlags.{trunc-flag-rows, whole-flags-alike}
 use Rattle.fmt_fields.specs.Width.{format, Fits}
 use Rattle.integral.specs.Point.{exponentOf, behindOf, byPoint, oneNan, Mask, Tail}
 use Rattle.integral.proofs.Masks.{behind-part, ones-without, under-ones, under-none}
@@ -27,6 +33,10 @@ use Rattle.integral.proofs.Choices.{at-below, at-part, at-whole, by-cas
 use Rattle.integral.specs.Floors.{belowOne, signMask, cutDown}
 use Rattle.integral.proofs.Scaled.{longer-scaled, cut-after}
 use Rattle.integral.proofs.WholeParts.{wholeIn-at, stays, units-one, below-one, far, part-bits, part-cut, shorter-all, shorter-part}
+
+-- invalid and inexact alone
+abbrev pub raising : Bool → Bool → Flags
+raising i e = record { invalid = i; division-by-zero = false; overflow = false; underflow = false; inexact = e }
 
 -- ---- trunc
 module _ (f : Format) (g : Fair f) (x b : ℕ) (p : Pattern f x) (t : Tail f x b) where
@@ -52,27 +62,6 @@ module _ (f : Format) (g : Fair f) (x b : ℕ) (p : Pattern f x) (t : Tail f x b
       (λ h.
       let z : b ≡ 0 = omega (arith, t .mask .1, ap (λ k. 2 ^ k) (t .whole h)) in
       ap (λ d. oneNan f x / suc d * suc d) z ∙ omega arith ∙ sym (stays f g toward-zero x p h))
-
-  -- ---- the status: the bits behind the point are what trunc takes away
-  trunc-leaves : magnitude f x ≤ inf f → truncOf f x + x % suc b ≡ x
-  trunc-leaves i = omega (arith, trunc-by-tail, ap (λ y. y / suc b * suc b) (not-past f x i), div-mod x (suc b) (omega arith))
-
-  pub nothing-lost : x % suc b ≡ 0 → truncStatus f x ≡ OK
-  nothing-lost z =
-      let s = trunc-status-rows f g in
-      order (suc (magnitude f x)) (inf f)
-      (λ l. s .same x (units f (magnitude f x)) (kind-finite f x l) .1 (omega (arith, trunc-leaves (omega arith))))
-      (λ l. order (magnitude f x) (inf f)
-      (λ i. s .of-infinity x (kind-infinite f x (both-ways (magnitude f x) (inf f) i (omega arith))))
-      (λ i. s .of-nan x (kind-nan f x i)))
-
-  pub something-lost : (x % suc b ≡ 0 → ⊥) → truncStatus f x ≡ INEXACT
-  something-lost z =
-      order (bias f + f .frac) (field f x)
-      (λ h. absurd (z (let e : b ≡ 0 = omega (arith, t .mask .1, ap (λ k. 2 ^ k) (t .whole h)) in ap (λ d. x % suc d) e ∙ omega arith)))
-      (λ h.
-      let l : magnitude f x < inf f = omega (arith, far f g (field f x) h, magnitude-fields f x, fraction-small f x) in
-      trunc-status-rows f g .changed x (units f (magnitude f x)) (kind-finite f x l) .1 (λ e. z (omega (arith, trunc-leaves (omega arith), e))))
 
 -- where the point stands within the fraction, b masks the k bits behind it
 record Part (f : Format) (x b : ℕ) : Type 0 where

@@ -2,10 +2,12 @@
 ghost use mathlib.Core.Path.{_≡_};
 ghost use Rattle.ieee.specs.Format.{b64, b32};
 ghost use Rattle.ieee.specs.Pattern.{Pattern};
-ghost use Rattle.ieee.specs.Whole.{floorOf, floorStatus};
+ghost use Rattle.ieee.specs.Whole.{floorOf, floorFlags};
 ghost use Rattle.fmt_fields.specs.Width.{format, Fits};
+ghost use Rattle.fmt_fields.specs.Raised.{flagsOf};
 ghost use Rattle.integral.specs.Point.{Mask};
 ghost use Rattle.integral.specs.Floors.{belowOne, signMask, cutDown};
+use crate::flags::flags;
 use crate::point::bias;
 use crate::point::canonicalise;
 use crate::point::choose_by_point;
@@ -13,9 +15,8 @@ use crate::point::clear_under;
 use crate::point::exponent_of;
 use crate::point::fraction_mask;
 use crate::point::shift_sign_out;
-use crate::status::status;
-use fmt_fields::env::FpResult32;
-use fmt_fields::env::FpResult64;
+use fmt_fields::env::Raised32;
+use fmt_fields::env::Raised64;
 use word_bits::pow;
 
 // All ones where x is negative, otherwise 0.
@@ -68,12 +69,13 @@ pub fn floor64(x: u64) -> u64
     floor_pattern(52, 11, x)
 }
 
-pub fn floor64_status(x: u64) -> FpResult64
-    ensures { λ r. ⌜ (r .val ≡ floorOf b64 x) × (r .status ≡ floorStatus b64 x) ⌝ }
+pub fn floor64_flags(x: u64) -> Raised64
+    ensures { λ r. ⌜ (r .value ≡ floorOf b64 x) × (flagsOf (r .flags) ≡ floorFlags b64 x) ⌝ }
 {
-    FpResult64 {
-        val: floor64(x),
-        status: status(52, 11, x),
+    let r = floor64(x);
+    Raised64 {
+        value: r,
+        flags: flags(52, 11, x, r),
     }
 }
 
@@ -83,11 +85,12 @@ pub fn floor32(x: u32) -> u32
     floor_pattern(23, 8, x as u64) as u32
 }
 
-pub fn floor32_status(x: u32) -> FpResult32
-    ensures { λ r. ⌜ (r .val ≡ floorOf b32 x) × (r .status ≡ floorStatus b32 x) ⌝ }
+pub fn floor32_flags(x: u32) -> Raised32
+    ensures { λ r. ⌜ (r .value ≡ floorOf b32 x) × (flagsOf (r .flags) ≡ floorFlags b32 x) ⌝ }
 {
-    FpResult32 {
-        val: floor32(x),
-        status: status(23, 8, x as u64),
+    let r = floor32(x);
+    Raised32 {
+        value: r,
+        flags: flags(23, 8, x as u64, r as u64),
     }
 }

@@ -1,5 +1,5 @@
-// trunc and floor, each with its status, over the format.
+// trunc and floor, each with its flags, over the format.
+pub mod flags;
 pub mod floor;
 pub mod point;
-pub mod status;
 pub mod trunc;

@@ -2,14 +2,15 @@
 ghost use mathlib.Core.Path.{_≡_};
 ghost use Rattle.ieee.specs.Format.{b64, b32};
 ghost use Rattle.ieee.specs.Pattern.{Pattern};
-ghost use Rattle.ieee.specs.Whole.{truncOf, truncStatus};
+ghost use Rattle.ieee.specs.Whole.{truncOf, truncFlags};
 ghost use Rattle.fmt_fields.specs.Width.{format, Fits};
+ghost use Rattle.fmt_fields.specs.Raised.{flagsOf};
+use crate::flags::flags;
 use crate::point::canonicalise;
 use crate::point::clear_under;
 use crate::point::tail_mask;
-use crate::status::status;
-use fmt_fields::env::FpResult32;
-use fmt_fields::env::FpResult64;
+use fmt_fields::env::Raised32;
+use fmt_fields::env::Raised64;
 
 // Cuts off the bits behind the point.
 fn trunc_pattern(frac: u32, expo: u32, x: u64) -> u64
@@ -26,12 +27,13 @@ pub fn trunc64(x: u64) -> u64
     trunc_pattern(52, 11, x)
 }
 
-pub fn trunc64_status(x: u64) -> FpResult64
-    ensures { λ r. ⌜ (r .val ≡ truncOf b64 x) × (r .status ≡ truncStatus b64 x) ⌝ }
+pub fn trunc64_flags(x: u64) -> Raised64
+    ensures { λ r. ⌜ (r .value ≡ truncOf b64 x) × (flagsOf (r .flags) ≡ truncFlags b64 x) ⌝ }
 {
-    FpResult64 {
-        val: trunc64(x),
-        status: status(52, 11, x),
+    let r = trunc64(x);
+    Raised64 {
+        value: r,
+        flags: flags(52, 11, x, r),
     }
 }
 
@@ -41,11 +43,12 @@ pub fn trunc32(x: u32) -> u32
     trunc_pattern(23, 8, x as u64) as u32
 }
 
-pub fn trunc32_status(x: u32) -> FpResult32
-    ensures { λ r. ⌜ (r .val ≡ truncOf b32 x) × (r .status ≡ truncStatus b32 x) ⌝ }
+pub fn trunc32_flags(x: u32) -> Raised32
+    ensures { λ r. ⌜ (r .value ≡ truncOf b32 x) × (flagsOf (r .flags) ≡ truncFlags b32 x) ⌝ }
 {
-    FpResult32 {
-        val: trunc32(x),
-        status: status(23, 8, x as u64),
+    let r = trunc32(x);
+    Raised32 {
+        value: r,
+        flags: flags(23, 8, x as u64, r as u64),
     }
 }

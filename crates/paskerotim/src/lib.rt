@@ -1,29 +1,38 @@
 // The face: the operations, re-exported, and the same as C functions on whole numbers.
 ghost use mathlib.Core.Path.{_≡_};
+ghost use Rattle.ieee.specs.Flags.{flagWord};
 ghost use Rattle.ieee.specs.Format.{b64, b32};
-ghost use Rattle.ieee.specs.Fma.{fmaOf};
+ghost use Rattle.ieee.specs.Fma.{fmaOf, fmaFlags};
 ghost use Rattle.ieee.specs.Fmod.{fmodOf};
 ghost use Rattle.ieee.specs.Lists.{listOf};
 ghost use Rattle.ieee.specs.Reduction.{reduceOf};
 ghost use Rattle.ieee.specs.Refusal.{numberOf, valueOf};
 ghost use Rattle.ieee.specs.Remquo.{remquoOf, quotientOf};
-ghost use Rattle.ieee.specs.Scalbn.{scalbnOf};
-ghost use Rattle.ieee.specs.Sqrt.{sqrtOf, sqrtStatus};
-ghost use Rattle.ieee.specs.Whole.{truncOf, truncStatus, floorOf, floorStatus};
+ghost use Rattle.ieee.specs.Scalbn.{scalbnOf, scalbnFlags};
+ghost use Rattle.ieee.specs.Sqrt.{sqrtOf, sqrtFlags};
+ghost use Rattle.ieee.specs.Whole.{truncOf, truncFlags, floorOf, floorFlags};
+pub use flagged::Flagged32;
+pub use flagged::Flagged64;
+pub use flagged::Flags;
+pub use flagged::floor32_flags;
+pub use flagged::floor64_flags;
+pub use flagged::fma32_flags;
+pub use flagged::fma64_flags;
+pub use flagged::scalbn32_flags;
+pub use flagged::scalbn64_flags;
+pub use flagged::sqrt32_flags;
+pub use flagged::sqrt64_flags;
+pub use flagged::trunc32_flags;
+pub use flagged::trunc64_flags;
 pub use fma::fma::fma32;
 pub use fma::fma::fma64;
 pub use fmod::fmod::fmod32;
 pub use fmod::fmod::fmod64;
-pub use fmt_fields::env::FpResult32;
-pub use fmt_fields::env::FpResult64;
+use fmt_fields::env::word_of;
 pub use integral::floor::floor32;
-pub use integral::floor::floor32_status;
 pub use integral::floor::floor64;
-pub use integral::floor::floor64_status;
 pub use integral::trunc::trunc32;
-pub use integral::trunc::trunc32_status;
 pub use integral::trunc::trunc64;
-pub use integral::trunc::trunc64_status;
 pub use lists::Listed64;
 pub use lists::call::list64;
 pub use reduce::Reduced32;
@@ -37,11 +46,7 @@ pub use remquo::remquo::remquo64;
 pub use scalbn::scalbn::scalbn32;
 pub use scalbn::scalbn::scalbn64;
 pub use sqrt::sqrt::sqrt32;
-pub use sqrt::sqrt::sqrt32_status;
 pub use sqrt::sqrt::sqrt64;
-pub use sqrt::sqrt::sqrt64_status;
-use sqrt::sqrt::status32;
-use sqrt::sqrt::status64;
 
 #[no_mangle]
 pub extern "C" fn pk_trunc64(x: u64) -> u64
@@ -51,10 +56,13 @@ pub extern "C" fn pk_trunc64(x: u64) -> u64
 }
 
 #[no_mangle]
-pub extern "C" fn pk_trunc64_status(x: u64) -> u32
-    ensures { λ r. ⌜ r ≡ truncStatus b64 x ⌝ }
+pub extern "C" fn pk_trunc64_flags(x: u64, flags: &mut u32) -> u64
+    ensures { λ r. ⌜ (r ≡ truncOf b64 x) × (now (flags .exit) ≡ flagWord (truncFlags b64 x)) ⌝ }
 {
-    trunc64_status(x).status
+    let a = integral::trunc::trunc64_flags(x);
+    let raised = a.flags;
+    *flags = word_of(raised);
+    a.value
 }
 
 #[no_mangle]
@@ -65,10 +73,13 @@ pub extern "C" fn pk_trunc32(x: u32) -> u32
 }
 
 #[no_mangle]
-pub extern "C" fn pk_trunc32_status(x: u32) -> u32
-    ensures { λ r. ⌜ r ≡ truncStatus b32 x ⌝ }
+pub extern "C" fn pk_trunc32_flags(x: u32, flags: &mut u32) -> u32
+    ensures { λ r. ⌜ (r ≡ truncOf b32 x) × (now (flags .exit) ≡ flagWord (truncFlags b32 x)) ⌝ }
 {
-    trunc32_status(x).status
+    let a = integral::trunc::trunc32_flags(x);
+    let raised = a.flags;
+    *flags = word_of(raised);
+    a.value
 }
 
 #[no_mangle]
@@ -79,10 +90,13 @@ pub extern "C" fn pk_floor64(x: u64) -> u64
 }
 
 #[no_mangle]
-pub extern "C" fn pk_floor64_status(x: u64) -> u32
-    ensures { λ r. ⌜ r ≡ floorStatus b64 x ⌝ }
+pub extern "C" fn pk_floor64_flags(x: u64, flags: &mut u32) -> u64
+    ensures { λ r. ⌜ (r ≡ floorOf b64 x) × (now (flags .exit) ≡ flagWord (floorFlags b64 x)) ⌝ }
 {
-    floor64_status(x).status
+    let a = integral::floor::floor64_flags(x);
+    let raised = a.flags;
+    *flags = word_of(raised);
+    a.value
 }
 
 #[no_mangle]
@@ -93,10 +107,13 @@ pub extern "C" fn pk_floor32(x: u32) -> u32
 }
 
 #[no_mangle]
-pub extern "C" fn pk_floor32_status(x: u32) -> u32
-    ensures { λ r. ⌜ r ≡ floorStatus b32 x ⌝ }
+pub extern "C" fn pk_floor32_flags(x: u32, flags: &mut u32) -> u32
+    ensures { λ r. ⌜ (r ≡ floorOf b32 x) × (now (flags .exit) ≡ flagWord (floorFlags b32 x)) ⌝ }
 {
-    floor32_status(x).status
+    let a = integral::floor::floor32_flags(x);
+    let raised = a.flags;
+    *flags = word_of(raised);
+    a.value
 }
 
 #[no_mangle]
@@ -107,10 +124,30 @@ pub extern "C" fn pk_scalbn64(x: u64, n: i32) -> u64
 }
 
 #[no_mangle]
+pub extern "C" fn pk_scalbn64_flags(x: u64, n: i32, flags: &mut u32) -> u64
+    ensures { λ r. ⌜ (r ≡ scalbnOf b64 x n) × (now (flags .exit) ≡ flagWord (scalbnFlags b64 x n)) ⌝ }
+{
+    let a = scalbn::scalbn::scalbn64_flags(x, n);
+    let raised = a.flags;
+    *flags = word_of(raised);
+    a.value
+}
+
+#[no_mangle]
 pub extern "C" fn pk_scalbn32(x: u32, n: i32) -> u32
     ensures { λ r. ⌜ r ≡ scalbnOf b32 x n ⌝ }
 {
     scalbn32(x, n)
+}
+
+#[no_mangle]
+pub extern "C" fn pk_scalbn32_flags(x: u32, n: i32, flags: &mut u32) -> u32
+    ensures { λ r. ⌜ (r ≡ scalbnOf b32 x n) × (now (flags .exit) ≡ flagWord (scalbnFlags b32 x n)) ⌝ }
+{
+    let a = scalbn::scalbn::scalbn32_flags(x, n);
+    let raised = a.flags;
+    *flags = word_of(raised);
+    a.value
 }
 
 #[no_mangle]
@@ -128,45 +165,31 @@ pub extern "C" fn pk_fmod32(x: u32, y: u32) -> u32
 }
 
 #[no_mangle]
-pub extern "C" fn pk_remquo64(x: u64, y: u64) -> u64
-    ensures { λ r. ⌜ r ≡ remquoOf b64 x y ⌝ }
+pub extern "C" fn pk_remquo64(x: u64, y: u64, quotient: &mut i32) -> u64
+    ensures { λ r. ⌜ (r ≡ remquoOf b64 x y) × (now (quotient .exit) ≡ quotientOf b64 x y) ⌝ }
 {
-    remquo64(x, y).value
+    let a = remquo64(x, y);
+    let n = a.quotient;
+    *quotient = n;
+    a.value
 }
 
 #[no_mangle]
-pub extern "C" fn pk_remquo64_quotient(x: u64, y: u64) -> i32
-    ensures { λ r. ⌜ r ≡ quotientOf b64 x y ⌝ }
+pub extern "C" fn pk_reduce64(x: u64, e: u32, y: u64, value: &mut u64) -> u32
+    ensures { λ r. ⌜ (r ≡ numberOf (reduceOf 64 x e y)) × (now (value .exit) ≡ valueOf (reduceOf 64 x e y)) ⌝ }
 {
-    remquo64(x, y).quotient
+    let a = reduce64(x, e, y);
+    *value = a.value;
+    a.refusal
 }
 
 #[no_mangle]
-pub extern "C" fn pk_reduce64(x: u64, e: u32, y: u64) -> u64
-    ensures { λ r. ⌜ r ≡ valueOf (reduceOf 64 x e y) ⌝ }
+pub extern "C" fn pk_reduce32(x: u32, e: u32, y: u32, value: &mut u32) -> u32
+    ensures { λ r. ⌜ (r ≡ numberOf (reduceOf 32 x e y)) × (now (value .exit) ≡ valueOf (reduceOf 32 x e y)) ⌝ }
 {
-    reduce64(x, e, y).value
-}
-
-#[no_mangle]
-pub extern "C" fn pk_reduce64_refusal(x: u64, e: u32, y: u64) -> u32
-    ensures { λ r. ⌜ r ≡ numberOf (reduceOf 64 x e y) ⌝ }
-{
-    refusal64(x, e, y)
-}
-
-#[no_mangle]
-pub extern "C" fn pk_reduce32(x: u32, e: u32, y: u32) -> u32
-    ensures { λ r. ⌜ r ≡ valueOf (reduceOf 32 x e y) ⌝ }
-{
-    reduce32(x, e, y).value
-}
-
-#[no_mangle]
-pub extern "C" fn pk_reduce32_refusal(x: u32, e: u32, y: u32) -> u32
-    ensures { λ r. ⌜ r ≡ numberOf (reduceOf 32 x e y) ⌝ }
-{
-    refusal32(x, e, y)
+    let a = reduce32(x, e, y);
+    *value = a.value;
+    a.refusal
 }
 
 #[no_mangle]
@@ -177,10 +200,13 @@ pub extern "C" fn pk_sqrt64(x: u64) -> u64
 }
 
 #[no_mangle]
-pub extern "C" fn pk_sqrt64_status(x: u64) -> u32
-    ensures { λ r. ⌜ r ≡ sqrtStatus b64 x ⌝ }
+pub extern "C" fn pk_sqrt64_flags(x: u64, flags: &mut u32) -> u64
+    ensures { λ r. ⌜ (r ≡ sqrtOf b64 x) × (now (flags .exit) ≡ flagWord (sqrtFlags b64 x)) ⌝ }
 {
-    status64(x)
+    let a = sqrt::sqrt::sqrt64_flags(x);
+    let raised = a.flags;
+    *flags = word_of(raised);
+    a.value
 }
 
 #[no_mangle]
@@ -191,10 +217,13 @@ pub extern "C" fn pk_sqrt32(x: u32) -> u32
 }
 
 #[no_mangle]
-pub extern "C" fn pk_sqrt32_status(x: u32) -> u32
-    ensures { λ r. ⌜ r ≡ sqrtStatus b32 x ⌝ }
+pub extern "C" fn pk_sqrt32_flags(x: u32, flags: &mut u32) -> u32
+    ensures { λ r. ⌜ (r ≡ sqrtOf b32 x) × (now (flags .exit) ≡ flagWord (sqrtFlags b32 x)) ⌝ }
 {
-    status32(x)
+    let a = sqrt::sqrt::sqrt32_flags(x);
+    let raised = a.flags;
+    *flags = word_of(raised);
+    a.value
 }
 
 #[no_mangle]
@@ -205,10 +234,30 @@ pub extern "C" fn pk_fma64(x: u64, y: u64, z: u64) -> u64
 }
 
 #[no_mangle]
+pub extern "C" fn pk_fma64_flags(x: u64, y: u64, z: u64, flags: &mut u32) -> u64
+    ensures { λ r. ⌜ (r ≡ fmaOf b64 x y z) × (now (flags .exit) ≡ flagWord (fmaFlags b64 x y z)) ⌝ }
+{
+    let a = fma::fma::fma64_flags(x, y, z);
+    let raised = a.flags;
+    *flags = word_of(raised);
+    a.value
+}
+
+#[no_mangle]
 pub extern "C" fn pk_fma32(x: u32, y: u32, z: u32) -> u32
     ensures { λ r. ⌜ r ≡ fmaOf b32 x y z ⌝ }
 {
     fma32(x, y, z)
+}
+
+#[no_mangle]
+pub extern "C" fn pk_fma32_flags(x: u32, y: u32, z: u32, flags: &mut u32) -> u32
+    ensures { λ r. ⌜ (r ≡ fmaOf b32 x y z) × (now (flags .exit) ≡ flagWord (fmaFlags b32 x y z)) ⌝ }
+{
+    let a = fma::fma::fma32_flags(x, y, z);
+    let raised = a.flags;
+    *flags = word_of(raised);
+    a.value
 }
 
 #[no_mangle]

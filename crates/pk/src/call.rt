@@ -1,8 +1,11 @@
 // The calls: each operation of the library by its number in the table.
 ghost use mathlib.Core.Path.{_≡_};
-ghost use Rattle.cmd_operations.specs.Table.{one, two, signed, answersOf};
+ghost use Rattle.cmd_operations.specs.Table.{one, two, flagged, signed, answersOf};
+ghost use Rattle.ieee.specs.Flags.{flagWord};
+ghost use Rattle.flagged.specs.Record.{recordOf};
 use cmd_operations::line::Answers;
 use cmd_operations::request::Operands;
+use fmt_fields::env::weigh;
 
 pub fn answer_of(number: usize, a: Operands) -> Answers
     ensures { λ r. ⌜ r ≡ answersOf number a ⌝ }
@@ -12,21 +15,21 @@ pub fn answer_of(number: usize, a: Operands) -> Answers
     let y = (a.y % 4294967296) as u32;
     let z = (a.z % 4294967296) as u32;
     match number {
-        0 => status64(paskerotim::floor64_status(a.x)),
-        1 => status32(paskerotim::floor32_status(x)),
-        2 => status64(paskerotim::trunc64_status(a.x)),
-        3 => status32(paskerotim::trunc32_status(x)),
-        4 => word64(paskerotim::scalbn64(a.x, a.n)),
-        5 => word32(paskerotim::scalbn32(x, a.n)),
+        0 => flagged64(paskerotim::floor64_flags(a.x)),
+        1 => flagged32(paskerotim::floor32_flags(x)),
+        2 => flagged64(paskerotim::trunc64_flags(a.x)),
+        3 => flagged32(paskerotim::trunc32_flags(x)),
+        4 => flagged64(paskerotim::scalbn64_flags(a.x, a.n)),
+        5 => flagged32(paskerotim::scalbn32_flags(x, a.n)),
         6 => word64(paskerotim::fmod64(a.x, a.y)),
         7 => word32(paskerotim::fmod32(x, y)),
         8 => quotient64(paskerotim::remquo64(a.x, a.y)),
         9 => refusal64(paskerotim::reduce64(a.x, y, a.z)),
         10 => refusal32(paskerotim::reduce32(x, y, z)),
-        11 => status64(paskerotim::sqrt64_status(a.x)),
-        12 => status32(paskerotim::sqrt32_status(x)),
-        13 => word64(paskerotim::fma64(a.x, a.y, a.z)),
-        14 => word32(paskerotim::fma32(x, y, z)),
+        11 => flagged64(paskerotim::sqrt64_flags(a.x)),
+        12 => flagged32(paskerotim::sqrt32_flags(x)),
+        13 => flagged64(paskerotim::fma64_flags(a.x, a.y, a.z)),
+        14 => flagged32(paskerotim::fma32_flags(x, y, z)),
         _ => two_answers(0, 0),
     }
 }
@@ -54,16 +57,30 @@ fn word32(x: u32) -> Answers
     two_answers(x as u64, 0)
 }
 
-fn status64(r: paskerotim::FpResult64) -> Answers
-    ensures { λ a. ⌜ a ≡ two (r .val) (r .status) ⌝ }
+// The flags by libm's bits.
+fn word_of(f: paskerotim::Flags) -> u64
+    ensures { λ r. ⌜ r ≡ flagWord (recordOf f) ⌝ }
 {
-    two_answers(r.val, r.status as u64)
+    let invalid = weigh(f.invalid, 1);
+    let divided = weigh(f.division_by_zero, 4);
+    let above = weigh(f.overflow, 8);
+    let below = weigh(f.underflow, 16);
+    let inexact = weigh(f.inexact, 32);
+    (invalid + divided + above + below + inexact) as u64
 }
 
-fn status32(r: paskerotim::FpResult32) -> Answers
-    ensures { λ a. ⌜ a ≡ two (r .val) (r .status) ⌝ }
+fn flagged64(r: paskerotim::Flagged64) -> Answers
+    ensures { λ a. ⌜ a ≡ flagged (r .value) (recordOf (r .flags)) ⌝ }
 {
-    two_answers(r.val as u64, r.status as u64)
+    let flags = r.flags;
+    two_answers(r.value, word_of(flags))
+}
+
+fn flagged32(r: paskerotim::Flagged32) -> Answers
+    ensures { λ a. ⌜ a ≡ flagged (r .value) (recordOf (r .flags)) ⌝ }
+{
+    let flags = r.flags;
+    two_answers(r.value as u64, word_of(flags))
 }
 
 fn quotient64(r: paskerotim::Remquo64) -> Answers

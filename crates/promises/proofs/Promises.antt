@@ -17,25 +17,25 @@ use lib.Dec.{eqb, lit<}
 use lib.IntN.{ℤ}
 use lib.Ieee.{binary64, binary32}
 use Rattle.ieee.specs.Format.{Format, b64, b32, b16, inf, canonical, units, Fair}
-use Rattle.ieee.specs.Pattern.{Pattern, minus, magnitude, nan, finite, kind}
+use Rattle.ieee.specs.Pattern.{Pattern, minus, magnitude, value, nan, finite, kind}
 use Rattle.ieee.specs.Exact.{Value, absolute}
-use Rattle.ieee.specs.Round.{Way, Attribute, ties-to-even, toward-positive, toward-negative, answer}
+use Rattle.ieee.specs.Round.{Way, Attribute, ties-to-even, toward-zero, toward-positive, toward-negative, answer}
 use Rattle.ieee.specs.Rule.{Ties, to-even, tiesAttribute, Once, RuleIn}
 use Rattle.ieee.specs.Flags.{Flags, signals, raised}
 use Rattle.ieee.specs.Only.{Only, OnlyFlags}
-use Rattle.ieee.specs.FlagsRule.{FlagsRule, Clean, Unbounded}
+use Rattle.ieee.specs.FlagsRule.{Exactly, FlagsRule, Clean, Unbounded}
 use Rattle.ieee.specs.FlagRows.{SqrtFlagRows, FmaFlagRows, ScalbnFlagRows, WholeFlagRows}
+use Rattle.ieee.specs.Invalid.{SqrtInvalid, FmaInvalid}
 use Rattle.ieee.specs.Band.{Band}
 use Rattle.ieee.specs.Rounded.{sqrtRounded, fmaRounded, scalbnRounded, ByNumber}
-use Rattle.ieee.specs.Sqrt.{sqrtOf, sqrtStatus, sqrtIn, sqrtFlagsIn, exactSqrt}
+use Rattle.ieee.specs.Sqrt.{sqrtOf, sqrtFlags, sqrtIn, sqrtFlagsIn, exactSqrt}
 use Rattle.ieee.specs.SqrtRows.{SqrtRows}
-use Rattle.ieee.specs.Fma.{fmaOf, fmaIn, fmaFlagsIn, exactFma, zeroSign}
+use Rattle.ieee.specs.Fma.{fmaOf, fmaFlags, fmaIn, fmaFlagsIn, exactFma, zeroSign}
 use Rattle.ieee.specs.FmaRows.{FmaRows}
-use Rattle.ieee.specs.Scalbn.{scalbnOf, scalbnIn, scalbnFlagsIn, exactScalbn}
+use Rattle.ieee.specs.Scalbn.{scalbnOf, scalbnFlags, scalbnIn, scalbnFlagsIn, exactScalbn}
 use Rattle.ieee.specs.ScalbnRows.{ScalbnRows}
-use Rattle.ieee.specs.Whole.{truncOf, truncStatus, truncFlags, floorOf, floorStatus, floorFlags, wholeFlagsIn}
+use Rattle.ieee.specs.Whole.{truncOf, truncFlags, floorOf, floorFlags, wholeFlagsIn}
 use Rattle.ieee.specs.WholeRule.{Truncated, Floored, WholeRows, FloorRows}
-use Rattle.ieee.specs.StatusRows.{WholeStatusRows}
 use Rattle.ieee.specs.Fmod.{fmodOf}
 use Rattle.ieee.specs.FmodRule.{Left, FmodRows}
 use Rattle.ieee.specs.Remquo.{remquoOf, quotientOf}
@@ -46,11 +46,11 @@ use Rattle.ieee.specs.Reduction.{reduceOf}
 use Rattle.ieee.specs.ReductionRule.{ReducedAs}
 use Rattle.ieee.specs.Lists.{listLimit, Listed, listOf}
 use Rattle.ieee.specs.ListRule.{ListedAs}
-use Rattle.ieee.specs.Numbers.{Numbers64, Numbers32, Statuses, FlagNumbers, Ends, Limits}
+use Rattle.ieee.specs.Numbers.{Numbers64, Numbers32, FlagNumbers, Ends, Limits}
 use Rattle.ieee.specs.Cases.{Cases}
 use Rattle.ieee.specs.FlagCases.{FlagCases}
 use Rattle.ieee.specs.Lazy.{Lazy64, Lazy32}
-use Rattle.ieee.proofs.Formats.{fair64, fair32, numbers64, numbers32, statuses, flag-numbers, ends, limits}
+use Rattle.ieee.proofs.Formats.{fair64, fair32, numbers64, numbers32, flag-numbers, ends, limits}
 use Rattle.ieee.proofs.Patterns.{finite-is}
 use Rattle.ieee.proofs.Refusals.{given-first, given-none}
 use Rattle.ieee.proofs.Answers.{once-unique}
@@ -58,7 +58,7 @@ use Rattle.ieee.proofs.Attributes.{answer-met-unique}
 use Rattle.ieee.proofs.Raised.{nearest-overflow, rule-one}
 use Rattle.ieee.proofs.Unbounded.{unbounded}
 use Rattle.ieee.proofs.Signals.{signalling}
-use Rattle.ieee.proofs.Sqrts.{sqrt-once, sqrt-met, sqrt-rows}
+use Rattle.ieee.proofs.Sqrts.{sqrt-once, sqrt-met, sqrt-rows, rooted-not-below}
 use Rattle.ieee.proofs.SqrtFlags.{sqrt-flags-rule, sqrt-flag-rows, sqrt-clean, sqrt-no-overflow, sqrt-no-underflow, sqrt-band}
 use Rattle.ieee.proofs.Fmas.{fma-once, fma-met, fma-rows}
 use Rattle.ieee.proofs.FmaFlags.{fma-flags-rule, fma-flag-rows, fma-clean, fma-band}
@@ -67,13 +67,13 @@ use Rattle.ieee.proofs.ScalbnFlags.{scalbn-flags-rule, scalbn-flag-rows, scalbn
 use Rattle.ieee.proofs.RoundedCalls.{sqrt-by-number, fma-by-number, scalbn-by-number}
 use Rattle.ieee.proofs.Wholes.{trunc-is, trunc-only, trunc-rows, floor-is, floor-only, floor-rows}
 use Rattle.ieee.proofs.WholeFlags.{whole-clean, trunc-flag-rows, floor-flag-rows}
-use Rattle.ieee.proofs.WholeStatuses.{trunc-status-rows, floor-status-rows}
+use Rattle.ieee.proofs.Invalids.{sqrt-invalid, fma-invalid, scalbn-invalid, whole-invalid}
 use Rattle.ieee.proofs.Remainders.{fmod-is, fmod-only, fmod-rows}
 use Rattle.ieee.proofs.Remquos.{remquo-is, remquo-only, remquo-rows}
 use Rattle.ieee.proofs.Reductions.{reduction-is, reduction-only}
 use Rattle.ieee.proofs.ListCalls.{list-of-is, list-only}
-use Rattle.ieee.proofs.Settled.{sqrt-settled, fma-settled, scalbn-settled, floor-settled, trunc-settled, whole-status-settled, fmod-settled, remquo-settled}
-use Rattle.ieee.proofs.FlagsSettled.{sqrt-flags-settled, fma-flags-settled, scalbn-flags-settled, whole-flags-settled}
+use Rattle.ieee.proofs.Settled.{sqrt-settled, fma-settled, scalbn-settled, floor-settled, trunc-settled, fmod-settled, remquo-settled}
+use Rattle.ieee.proofs.FlagsSettled.{sqrt-raises-settled, fma-raises-settled, scalbn-raises-settled, floor-raises-settled, trunc-raises-settled}
 use Rattle.ieee.proofs.Cases.{cases}
 use Rattle.ieee.proofs.FlagCases.{flag-cases}
 use Rattle.ieee.proofs.Lazy.{lazy64, lazy32}
@@ -92,14 +92,14 @@ pub both-widths-are-fair : Fair b64 × Fair b32
 both-widths-are-fair = (fair64, fair32)
 
 -- code: none, the numbers
--- their numbers, the statuses and the limits
-pub numbers-are-as-given : Numbers64 × Numbers32 × Statuses × Limits
-numbers-are-as-given = (numbers64, numbers32, statuses, limits)
+-- their numbers, the flags' and the limits
+pub numbers-are-as-given : Numbers64 × Numbers32 × FlagNumbers × Ends × Limits
+numbers-are-as-given = (numbers64, numbers32, flag-numbers, ends, limits)
 
 -- ======== 1. Every pattern is answered. What cannot be answered is refused by a number, the first that applies, and a refusal changes nothing.
 -- code: as sqrt-is-settled
--- what every operation gives for NaNs, infinities and zeros, sqrt with its status, row by row
-pub sqrt-by-rows : (f : Format) → SqrtRows f (sqrtOf f) (sqrtStatus f)
+-- what every operation gives for NaNs, infinities and zeros, row by row
+pub sqrt-by-rows : (f : Format) → SqrtRows f (sqrtOf f)
 unfolding sqrtOf
 sqrt-by-rows f = sqrt-rows f ties-to-even
 
@@ -135,7 +135,7 @@ pub every-nan-is-canonical : (f : Format) → Fair f → (x y z : ℕ) (n : ℤ)
     → (sqrtOf f x ≡ canonical f) × (fmaOf f x y z ≡ canonical f) × (fmaOf f y x z ≡ canonical f) × (fmaOf f y z x ≡ canonical f) × (fmodOf f x y ≡ canonical f) × (fmodOf f y x ≡ canonical f)
     × (remquoOf f x y ≡ canonical f) × (remquoOf f y x ≡ canonical f) × (scalbnOf f x n ≡ canonical f) × (floorOf f x ≡ canonical f) × (truncOf f x ≡ canonical f)
 every-nan-is-canonical f g x y z n h = (
-  sqrt-by-rows f .of-nan x h .0,
+  sqrt-by-rows f .of-nan x h,
   fma-by-rows f x y z .nan-first h,
   fma-by-rows f y x z .nan-second h,
   fma-by-rows f y z x .nan-third h,
@@ -163,7 +163,7 @@ pub list-call-is-settled : (f : Format) (op : ℕ) (xs ys : List ℕ) → Listed
     × ((l : Listed) → ListedAs f listLimit op xs ys l → (numberOf (l .answer) ≡ numberOf (listOf f op xs ys .answer)) × (valueOf (l .answer) ≡ valueOf (listOf f op xs ys .answer)) × (l .output ≡ listOf f op xs ys .output))
 list-call-is-settled f op xs ys = (list-of-is f op xs ys, λ l a. list-only f listLimit op xs ys l (listOf f op xs ys) a (list-of-is f op xs ys))
 
--- code: reduce64, reduce32, refusal64, refusal32, pk_reduce64, pk_reduce32, pk_reduce64_refusal, pk_reduce32_refusal
+-- code: reduce64, reduce32, refusal64, refusal32, pk_reduce64, pk_reduce32
 -- the number, and the value: what is left of x 2 ^ e by y, or 0 where it is refused; and only so
 pub reduction-is-settled : (w x e y : ℕ) → ReducedAs w x e y (reduceOf w x e y)
     × ((a : Answer) → ReducedAs w x e y a → (numberOf a ≡ numberOf (reduceOf w x e y)) × (valueOf a ≡ valueOf (reduceOf w x e y)))
@@ -179,15 +179,6 @@ floor-is-exact f g x u h = (floor-is f g x u h, λ q a. floor-only f x q (floorO
 -- the whole k with |k| ≤ |x| < |k| + 1, the sign kept; and no other pattern
 pub trunc-is-exact : (f : Format) → Fair f → (x u : ℕ) → kind f x ≡ finite u → Only (Truncated f x) (truncOf f x)
 trunc-is-exact f g x u h = (trunc-is f g x u h, λ q a. trunc-only f x q (truncOf f x) a (trunc-is f g x u h))
-
--- code: as floor-status-is-settled
--- their statuses: of a finite operand INEXACT exactly where the answer is another number, and else OK; of an infinity or a NaN always OK
-pub floor-status-tells-change : (f : Format) → Fair f → WholeStatusRows f (floorOf f) (floorStatus f)
-floor-status-tells-change = floor-status-rows
-
--- code: as trunc-status-is-settled
-pub trunc-status-tells-change : (f : Format) → Fair f → WholeStatusRows f (truncOf f) (truncStatus f)
-trunc-status-tells-change = trunc-status-rows
 
 -- code: as fmod-is-settled
 -- |x| = n |y| + |r| with |r| < |y|, the sign of x; and no other pattern
@@ -228,12 +219,11 @@ scalbn-rounds-once f g x u n h =
     (o, λ q a. once-unique f g to-even (minus f x) (exactScalbn f x n) q (scalbnOf f x n) a o)
 
 -- ======== Nothing is left open: for every pattern, whatever meets the rows, and for numbers the rule, is the answer.
--- code: sqrt64, sqrt32, sqrt64_status, sqrt32_status, pk_sqrt64, pk_sqrt32, pk_sqrt64_status, pk_sqrt32_status
-pub sqrt-is-settled : (f : Format) → Fair f → (o s : ℕ → ℕ) → SqrtRows f o s
-    → ((x u : ℕ) → kind f x ≡ finite u → (minus f x ≡ true → u ≡ 0) → Once f to-even (minus f x) (exactSqrt f x) (o x))
-    → (x : ℕ) → Pattern f x → (o x ≡ sqrtOf f x) × (s x ≡ sqrtStatus f x)
+-- code: sqrt64, sqrt32, pk_sqrt64, pk_sqrt32
+pub sqrt-is-settled : (f : Format) → Fair f → (o : ℕ → ℕ) → SqrtRows f o
+    → ((x u : ℕ) → kind f x ≡ finite u → (minus f x ≡ true → u ≡ 0) → Once f to-even (minus f x) (exactSqrt f x) (o x)) → (x : ℕ) → o x ≡ sqrtOf f x
 unfolding sqrtOf
-sqrt-is-settled f g o s rows rule x p = sqrt-settled f g ties-to-even o s rows rule x p
+sqrt-is-settled f g o rows rule x = sqrt-settled f g ties-to-even o rows rule x
 
 -- code: fma64, fma32, pk_fma64, pk_fma32
 pub fma-is-settled : (f : Format) → Fair f → (x y z r : ℕ) → FmaRows f ties-to-even x y z r
@@ -256,26 +246,167 @@ floor-is-settled = floor-settled
 pub trunc-is-settled : (f : Format) → Fair f → (o : ℕ → ℕ) → WholeRows f o → ((x u : ℕ) → kind f x ≡ finite u → Truncated f x (o x)) → (x : ℕ) → o x ≡ truncOf f x
 trunc-is-settled = trunc-settled
 
--- code: floor64_status, floor32_status, pk_floor64_status, pk_floor32_status
-pub floor-status-is-settled : (f : Format) → Fair f → (s : ℕ → ℕ) → WholeStatusRows f (floorOf f) s → (x : ℕ) → s x ≡ floorStatus f x
-floor-status-is-settled f g s rows = whole-status-settled f (floorOf f) s (floorStatus f) rows (floor-status-rows f g)
-
--- code: trunc64_status, trunc32_status, pk_trunc64_status, pk_trunc32_status
-pub trunc-status-is-settled : (f : Format) → Fair f → (s : ℕ → ℕ) → WholeStatusRows f (truncOf f) s → (x : ℕ) → s x ≡ truncStatus f x
-trunc-status-is-settled f g s rows = whole-status-settled f (truncOf f) s (truncStatus f) rows (trunc-status-rows f g)
-
 -- code: fmod64, fmod32, pk_fmod64, pk_fmod32
 pub fmod-is-settled : (f : Format) (o : ℕ → ℕ → ℕ) → FmodRows f o
     → ((x y u v : ℕ) → kind f x ≡ finite u → kind f y ≡ finite (suc v) → Left f x y (o x y)) → (x y : ℕ) → o x y ≡ fmodOf f x y
 fmod-is-settled = fmod-settled
 
--- code: remquo64, pk_remquo64, pk_remquo64_quotient
+-- code: remquo64, pk_remquo64
 pub remquo-is-settled : (f : Format) (o : ℕ → ℕ → ℕ) (n : ℕ → ℕ → ℤ) → RemquoRows f o n
     → ((x y u v : ℕ) → kind f x ≡ finite u → kind f y ≡ finite (suc v) → NearestLeft f x y (o x y) (n x y)) → (x y : ℕ) → (o x y ≡ remquoOf f x y) × (n x y ≡ quotientOf f x y)
 remquo-is-settled = remquo-settled
 
--- ======== Under every attribute of IEEE 754: the exact value rounded once by the attribute's rule, with the five flags of clause 7. These are definitions: the functions give nearest even, and a status.
--- code: none, no function takes an attribute or gives flags
+-- ======== sqrt, fma, scalbn, floor and trunc raise the five flags of IEEE 754: inexact exactly when the answer is not the exact value, which for floor and trunc is the operand; tininess is judged after rounding.
+-- code: as sqrt-flags-are-settled
+-- for finite operands whose answer is not a NaN, which fma and scalbn never give for such; an infinity is never the exact value
+pub sqrt-inexact-tells : (f : Format) → Fair f → (x u : ℕ) → kind f x ≡ finite u → (kind f (sqrtOf f x) ≡ nan → ⊥) → (sqrtFlags f x .inexact ≡ true) ↔ (Exactly f (exactSqrt f x) (sqrtOf f x) → ⊥)
+unfolding sqrtOf sqrtFlags
+sqrt-inexact-tells f g x u h n = sqrt-flags-rule f g ties-to-even x u h (rooted-not-below f g ties-to-even x u h n) .inexact-when
+
+-- code: as fma-flags-are-settled
+pub fma-inexact-tells : (f : Format) → Fair f → (x y z u v w : ℕ) → kind f x ≡ finite u → kind f y ≡ finite v → kind f z ≡ finite w
+    → (fmaFlags f x y z .inexact ≡ true) ↔ (Exactly f (exactFma f x y z) (fmaOf f x y z) → ⊥)
+unfolding fmaOf fmaFlags
+fma-inexact-tells f g x y z u v w h k l = fma-flags-rule f g ties-to-even x y z u v w h k l .inexact-when
+
+-- code: as scalbn-flags-are-settled
+pub scalbn-inexact-tells : (f : Format) → Fair f → (x u : ℕ) (n : ℤ) → kind f x ≡ finite u → (scalbnFlags f x n .inexact ≡ true) ↔ (Exactly f (exactScalbn f x n) (scalbnOf f x n) → ⊥)
+unfolding scalbnOf scalbnFlags
+scalbn-inexact-tells f g x u n h = scalbn-flags-rule f g ties-to-even x u n h .inexact-when
+
+-- code: as floor-flags-are-settled
+pub floor-inexact-tells : (f : Format) → Fair f → (x u : ℕ) → Pattern f x → kind f x ≡ finite u → (floorFlags f x .inexact ≡ true) ↔ (value f (floorOf f x) ≡ value f x → ⊥)
+floor-inexact-tells f g x u p h = floor-flag-rows f g .another x u p h
+
+-- code: as trunc-flags-are-settled
+pub trunc-inexact-tells : (f : Format) → Fair f → (x u : ℕ) → Pattern f x → kind f x ≡ finite u → (truncFlags f x .inexact ≡ true) ↔ (value f (truncOf f x) ≡ value f x → ⊥)
+trunc-inexact-tells f g x u p h = trunc-flag-rows f g .another x u p h
+
+-- code: as sqrt-flags-are-settled
+-- all five, by the rule of clauses 7.4 to 7.6, which one record of flags meets
+pub sqrt-flags-by-rule : (f : Format) → Fair f → (x u : ℕ) → kind f x ≡ finite u → (minus f x ≡ true → u ≡ 0) → OnlyFlags (FlagsRule f ties-to-even (minus f x) (exactSqrt f x) (sqrtOf f x)) (sqrtFlags f x)
+unfolding sqrtOf sqrtFlags
+sqrt-flags-by-rule f g x u h z =
+    let e = sqrt-flags-rule f g ties-to-even x u h z in
+    (e, λ F b. rule-one f ties-to-even (minus f x) (exactSqrt f x) (sqrtIn f ties-to-even x) F (sqrtFlagsIn f ties-to-even x) b e)
+
+-- code: as fma-flags-are-settled
+pub fma-flags-by-rule : (f : Format) → Fair f → (x y z u v w : ℕ) → kind f x ≡ finite u → kind f y ≡ finite v → kind f z ≡ finite w
+    → OnlyFlags (FlagsRule f ties-to-even (zeroSign f ties-to-even x y z) (exactFma f x y z) (fmaOf f x y z)) (fmaFlags f x y z)
+unfolding fmaOf fmaFlags
+fma-flags-by-rule f g x y z u v w h k l =
+    let e = fma-flags-rule f g ties-to-even x y z u v w h k l in
+    (e, λ F b. rule-one f ties-to-even (zeroSign f ties-to-even x y z) (exactFma f x y z) (fmaIn f ties-to-even x y z) F (fmaFlagsIn f ties-to-even x y z) b e)
+
+-- code: as scalbn-flags-are-settled
+pub scalbn-flags-by-rule : (f : Format) → Fair f → (x u : ℕ) (n : ℤ) → kind f x ≡ finite u → OnlyFlags (FlagsRule f ties-to-even (minus f x) (exactScalbn f x n) (scalbnOf f x n)) (scalbnFlags f x n)
+unfolding scalbnOf scalbnFlags
+scalbn-flags-by-rule f g x u n h =
+    let e = scalbn-flags-rule f g ties-to-even x u n h in
+    (e, λ F b. rule-one f ties-to-even (minus f x) (exactScalbn f x n) (scalbnIn f ties-to-even x n) F (scalbnFlagsIn f ties-to-even x n) b e)
+
+-- code: as sqrt-flags-are-settled
+-- NaNs, infinities and zeros, row by row: when invalid is raised, and that nothing else is; floor and trunc on all patterns
+pub sqrt-flags-by-rows : (f : Format) → Fair f → SqrtFlagRows f (sqrtFlags f)
+unfolding sqrtFlags
+sqrt-flags-by-rows f g = sqrt-flag-rows f g ties-to-even
+
+-- code: as fma-flags-are-settled
+pub fma-flags-by-rows : (f : Format) (x y z : ℕ) → FmaFlagRows f x y z (fmaFlags f x y z)
+unfolding fmaFlags
+fma-flags-by-rows f x y z = fma-flag-rows f ties-to-even x y z
+
+-- code: as scalbn-flags-are-settled
+pub scalbn-flags-by-rows : (f : Format) (x : ℕ) (n : ℤ) → ScalbnFlagRows f x (scalbnFlags f x n)
+unfolding scalbnFlags
+scalbn-flags-by-rows f x n = scalbn-flag-rows f ties-to-even x n
+
+-- code: as floor-flags-are-settled
+pub floor-flags-by-rows : (f : Format) → Fair f → WholeFlagRows f (floorOf f) (floorFlags f)
+floor-flags-by-rows = floor-flag-rows
+
+-- code: as trunc-flags-are-settled
+pub trunc-flags-by-rows : (f : Format) → Fair f → WholeFlagRows f (truncOf f) (truncFlags f)
+trunc-flags-by-rows = trunc-flag-rows
+
+-- code: as sqrt-flags-are-settled, fma-flags-are-settled, scalbn-flags-are-settled, floor-flags-are-settled, trunc-flags-are-settled
+-- invalid, exactly: a signalling NaN; the root of what is below zero; in fma zero times infinity, whatever is added, and infinities of unlike signs
+pub invalid-tells : (f : Format) → Fair f → (x y z : ℕ) (n : ℤ)
+    → ((sqrtFlags f x .invalid ≡ true) ↔ SqrtInvalid f x) × ((fmaFlags f x y z .invalid ≡ true) ↔ FmaInvalid f x y z) × ((scalbnFlags f x n .invalid ≡ true) ↔ (signals f x ≡ true))
+    × ((floorFlags f x .invalid ≡ true) ↔ (signals f x ≡ true)) × ((truncFlags f x .invalid ≡ true) ↔ (signals f x ≡ true))
+unfolding sqrtFlags fmaFlags scalbnFlags
+invalid-tells f g x y z n = (
+  sqrt-invalid f g ties-to-even x,
+  fma-invalid f g ties-to-even x y z,
+  scalbn-invalid f g ties-to-even x n,
+  whole-invalid f g (floorOf f) (floorFlags f) (floor-flag-rows f g) x,
+  whole-invalid f g (truncOf f) (truncFlags f) (trunc-flag-rows f g) x,
+)
+
+-- code: none, every NaN
+-- a NaN signals exactly where its magnitude is below that of the canonical NaN
+pub signalling-is-below-the-canonical : (f : Format) → Fair f → (x : ℕ) → (signals f x ≡ true) ↔ ((inf f < magnitude f x) × (magnitude f x < canonical f))
+signalling-is-below-the-canonical = signalling
+
+-- code: as sqrt-flags-are-settled, fma-flags-are-settled, scalbn-flags-are-settled, floor-flags-are-settled, trunc-flags-are-settled
+-- whatever the operands: overflow and underflow imply inexact, invalid stands alone, division by zero never
+pub flags-are-clean : (f : Format) → Fair f → (x y z : ℕ) (n : ℤ)
+    → Clean (sqrtFlags f x) × Clean (fmaFlags f x y z) × Clean (scalbnFlags f x n) × Clean (floorFlags f x) × Clean (truncFlags f x)
+unfolding sqrtFlags fmaFlags scalbnFlags floorFlags truncFlags
+flags-are-clean f g x y z n = (
+  sqrt-clean f g ties-to-even x,
+  fma-clean f g ties-to-even x y z,
+  scalbn-clean f g ties-to-even x n,
+  whole-clean f toward-negative x,
+  whole-clean f toward-zero x,
+)
+
+-- code: none, every exact value
+-- overflow and tininess are judged as though the exponent range were unbounded: every wider range gives one verdict, and for each value but zero one is wide enough
+pub range-is-unbounded : (f : Format) → Fair f → (w : Way) (v : Value) → Unbounded f w (absolute v)
+range-is-unbounded = unbounded
+
+-- code: none, every exact value
+-- to the nearest, even or away, overflow is raised exactly when the answer is an infinity
+pub nearest-overflows-to-infinity : (f : Format) → Fair f → (t : Ties) (s : Bool) (v : Value)
+    → (raised f (tiesAttribute t) s v .overflow ≡ true) ↔ (magnitude f (answer f (tiesAttribute t) s v) ≡ inf f)
+nearest-overflows-to-infinity = nearest-overflow
+
+-- code: sqrt64_flags, sqrt32_flags, pk_sqrt64_flags, pk_sqrt32_flags
+-- nothing is left open here either: whatever meets the rows, and for numbers the rules, is the answer with its flags
+pub sqrt-flags-are-settled : (f : Format) → Fair f → (o : ℕ → ℕ) (F : ℕ → Flags) → SqrtRows f o → SqrtFlagRows f F
+    → ((x u : ℕ) → kind f x ≡ finite u → (minus f x ≡ true → u ≡ 0) → Once f to-even (minus f x) (exactSqrt f x) (o x) × FlagsRule f ties-to-even (minus f x) (exactSqrt f x) (o x) (F x))
+    → (x : ℕ) → (o x ≡ sqrtOf f x) × (F x ≡ sqrtFlags f x)
+unfolding sqrtOf sqrtFlags
+sqrt-flags-are-settled f g = sqrt-raises-settled f g ties-to-even
+
+-- code: fma64_flags, fma32_flags, pk_fma64_flags, pk_fma32_flags
+pub fma-flags-are-settled : (f : Format) → Fair f → (x y z r : ℕ) (F : Flags) → FmaRows f ties-to-even x y z r → FmaFlagRows f x y z F
+    → ((u v w : ℕ) → kind f x ≡ finite u → kind f y ≡ finite v → kind f z ≡ finite w
+    → Once f to-even (zeroSign f ties-to-even x y z) (exactFma f x y z) r × FlagsRule f ties-to-even (zeroSign f ties-to-even x y z) (exactFma f x y z) r F)
+    → Pattern f z → (r ≡ fmaOf f x y z) × (F ≡ fmaFlags f x y z)
+unfolding fmaOf fmaFlags
+fma-flags-are-settled f g = fma-raises-settled f g ties-to-even
+
+-- code: scalbn64_flags, scalbn32_flags, pk_scalbn64_flags, pk_scalbn32_flags
+pub scalbn-flags-are-settled : (f : Format) → Fair f → (x : ℕ) (n : ℤ) (r : ℕ) (F : Flags) → ScalbnRows f x n r → ScalbnFlagRows f x F
+    → ((u : ℕ) → kind f x ≡ finite u → Once f to-even (minus f x) (exactScalbn f x n) r × FlagsRule f ties-to-even (minus f x) (exactScalbn f x n) r F)
+    → (r ≡ scalbnOf f x n) × (F ≡ scalbnFlags f x n)
+unfolding scalbnOf scalbnFlags
+scalbn-flags-are-settled f g = scalbn-raises-settled f g ties-to-even
+
+-- code: floor64_flags, floor32_flags, pk_floor64_flags, pk_floor32_flags
+pub floor-flags-are-settled : (f : Format) → Fair f → (o : ℕ → ℕ) (F : ℕ → Flags) → WholeFlagRows f o F → FloorRows f o
+    → ((x u : ℕ) → kind f x ≡ finite u → Floored f x (o x)) → (x : ℕ) → (o x ≡ floorOf f x) × (F x ≡ floorFlags f x)
+floor-flags-are-settled = floor-raises-settled
+
+-- code: trunc64_flags, trunc32_flags, pk_trunc64_flags, pk_trunc32_flags
+pub trunc-flags-are-settled : (f : Format) → Fair f → (o : ℕ → ℕ) (F : ℕ → Flags) → WholeFlagRows f o F → WholeRows f o
+    → ((x u : ℕ) → kind f x ≡ finite u → Truncated f x (o x)) → (x : ℕ) → (o x ≡ truncOf f x) × (F x ≡ truncFlags f x)
+trunc-flags-are-settled = trunc-raises-settled
+
+-- ======== Under every attribute of IEEE 754: the exact value rounded once by the attribute's rule, with its flags. These are definitions: the functions give nearest even.
+-- code: none, no function takes an attribute
 -- the five attributes have numbers, and every other number is refused with 10, the value zero and no flag
 pub attributes-go-by-number : (f : Format) (x y z : ℕ) (n : ℤ)
     → ByNumber (λ a. sqrtIn f a x) (λ a. sqrtFlagsIn f a x) (λ k. sqrtRounded f k x)
@@ -283,11 +414,7 @@ pub attributes-go-by-number : (f : Format) (x y z : ℕ) (n : ℤ)
     × ByNumber (λ a. scalbnIn f a x n) (λ a. scalbnFlagsIn f a x n) (λ k. scalbnRounded f k x n)
 attributes-go-by-number f x y z n = (sqrt-by-number f x, fma-by-number f x y z, scalbn-by-number f x n)
 
--- code: none, the numbers
-pub flag-numbers-are-as-given : FlagNumbers × Ends
-flag-numbers-are-as-given = (flag-numbers, ends)
-
--- code: none, no function takes an attribute or gives flags
+-- code: none, no function takes an attribute
 -- for finite operands whose answer is not a NaN: the rule of the attribute, which one pattern meets, and the rule of its flags, which one record of flags meets;
 -- inexact exactly when the answer is not the exact value, an infinity never being it
 pub sqrt-by-attribute : (f : Format) → Fair f → (a : Attribute) (x u : ℕ) → kind f x ≡ finite u → (minus f x ≡ true → u ≡ 0)
@@ -300,7 +427,7 @@ sqrt-by-attribute f g a x u h z =
     let e = sqrt-flags-rule f g a x u h z in
     ((m, λ q b. answer-met-unique f g a s v q r b m), (e, λ F b. rule-one f a s v r F (sqrtFlagsIn f a x) b e))
 
--- code: none, no function takes an attribute or gives flags
+-- code: none, no function takes an attribute
 pub fma-by-attribute : (f : Format) → Fair f → (a : Attribute) (x y z u v w : ℕ) → kind f x ≡ finite u → kind f y ≡ finite v → kind f z ≡ finite w
     → Only (RuleIn f a (zeroSign f a x y z) (exactFma f x y z)) (fmaIn f a x y z) × OnlyFlags (FlagsRule f a (zeroSign f a x y z) (exactFma f x y z) (fmaIn f a x y z)) (fmaFlagsIn f a x y z)
 fma-by-attribute f g a x y z u v w h k l =
@@ -311,7 +438,7 @@ fma-by-attribute f g a x y z u v w h k l =
     let e = fma-flags-rule f g a x y z u v w h k l in
     ((m, λ q b. answer-met-unique f g a s t q r b m), (e, λ F b. rule-one f a s t r F (fmaFlagsIn f a x y z) b e))
 
--- code: none, no function takes an attribute or gives flags
+-- code: none, no function takes an attribute
 pub scalbn-by-attribute : (f : Format) → Fair f → (a : Attribute) (x u : ℕ) (n : ℤ) → kind f x ≡ finite u
     → Only (RuleIn f a (minus f x) (exactScalbn f x n)) (scalbnIn f a x n) × OnlyFlags (FlagsRule f a (minus f x) (exactScalbn f x n) (scalbnIn f a x n)) (scalbnFlagsIn f a x n)
 scalbn-by-attribute f g a x u n h =
@@ -322,96 +449,50 @@ scalbn-by-attribute f g a x u n h =
     let e = scalbn-flags-rule f g a x u n h in
     ((m, λ q b. answer-met-unique f g a s v q r b m), (e, λ F b. rule-one f a s v r F (scalbnFlagsIn f a x n) b e))
 
--- code: none, no function takes an attribute or gives flags
+-- code: none, no function takes an attribute
 -- the values' rows of NaNs, infinities and zeros hold under every attribute; a zero sum of unlike signs is -0 when rounding down, and +0 under the others
 pub rows-by-attribute : (f : Format) → Fair f → (a : Attribute) (x y z : ℕ) (n : ℤ)
-    → SqrtRows f (sqrtIn f a) (sqrtStatus f) × FmaRows f a x y z (fmaIn f a x y z) × ScalbnRows f x n (scalbnIn f a x n)
+    → SqrtRows f (sqrtIn f a) × FmaRows f a x y z (fmaIn f a x y z) × ScalbnRows f x n (scalbnIn f a x n)
 rows-by-attribute f g a x y z n = (sqrt-rows f a, fma-rows f a x y z, scalbn-rows f g a x n)
 
--- code: none, no function takes an attribute or gives flags
--- overflow and tininess are judged as though the exponent range were unbounded: every wider range gives one verdict, and for each value but zero one is wide enough
-pub range-is-unbounded : (f : Format) → Fair f → (w : Way) (v : Value) → Unbounded f w (absolute v)
-range-is-unbounded = unbounded
+-- code: none, no function takes an attribute
+-- and so do those of the flags
+pub flag-rows-by-attribute : (f : Format) → Fair f → (a : Attribute) (x y z : ℕ) (n : ℤ)
+    → SqrtFlagRows f (sqrtFlagsIn f a) × FmaFlagRows f x y z (fmaFlagsIn f a x y z) × ScalbnFlagRows f x (scalbnFlagsIn f a x n)
+flag-rows-by-attribute f g a x y z n = (sqrt-flag-rows f g a, fma-flag-rows f a x y z, scalbn-flag-rows f a x n)
 
--- code: none, no function takes an attribute or gives flags
--- to the nearest, even or away, overflow is raised exactly when the answer is an infinity
-pub nearest-overflows-to-infinity : (f : Format) → Fair f → (t : Ties) (s : Bool) (v : Value)
-    → (raised f (tiesAttribute t) s v .overflow ≡ true) ↔ (magnitude f (answer f (tiesAttribute t) s v) ≡ inf f)
-nearest-overflows-to-infinity = nearest-overflow
+-- code: none, no function takes an attribute
+-- nothing is left open here either
+pub sqrt-settled-by-attribute : (f : Format) → Fair f → (a : Attribute) (o : ℕ → ℕ) (F : ℕ → Flags) → SqrtRows f o → SqrtFlagRows f F
+    → ((x u : ℕ) → kind f x ≡ finite u → (minus f x ≡ true → u ≡ 0) → RuleIn f a (minus f x) (exactSqrt f x) (o x) × FlagsRule f a (minus f x) (exactSqrt f x) (o x) (F x))
+    → (x : ℕ) → (o x ≡ sqrtIn f a x) × (F x ≡ sqrtFlagsIn f a x)
+sqrt-settled-by-attribute = sqrt-raises-settled
 
--- code: none, no function takes an attribute or gives flags
--- a NaN signals exactly where its magnitude is below that of the canonical NaN
-pub signalling-is-below-the-canonical : (f : Format) → Fair f → (x : ℕ) → (signals f x ≡ true) ↔ ((inf f < magnitude f x) × (magnitude f x < canonical f))
-signalling-is-below-the-canonical = signalling
-
--- code: none, no function takes an attribute or gives flags
--- NaNs, infinities and zeros, row by row: when invalid is raised, and that nothing else is
-pub sqrt-flags-by-rows : (f : Format) → Fair f → (a : Attribute) → SqrtFlagRows f (sqrtFlagsIn f a)
-sqrt-flags-by-rows = sqrt-flag-rows
-
--- code: none, no function takes an attribute or gives flags
-pub fma-flags-by-rows : (f : Format) (a : Attribute) (x y z : ℕ) → FmaFlagRows f x y z (fmaFlagsIn f a x y z)
-fma-flags-by-rows = fma-flag-rows
-
--- code: none, no function takes an attribute or gives flags
-pub scalbn-flags-by-rows : (f : Format) (a : Attribute) (x : ℕ) (n : ℤ) → ScalbnFlagRows f x (scalbnFlagsIn f a x n)
-scalbn-flags-by-rows = scalbn-flag-rows
-
--- code: none, no function takes an attribute or gives flags
--- and floor and trunc, inexact exactly where a finite operand is changed
-pub floor-flags-by-rows : (f : Format) → Fair f → WholeFlagRows f (floorOf f) (floorFlags f)
-floor-flags-by-rows = floor-flag-rows
-
--- code: none, no function takes an attribute or gives flags
-pub trunc-flags-by-rows : (f : Format) → Fair f → WholeFlagRows f (truncOf f) (truncFlags f)
-trunc-flags-by-rows = trunc-flag-rows
-
--- code: none, no function takes an attribute or gives flags
--- nothing is left open here either: whatever meets the rows, and for numbers the rules, is the answer with its flags
-pub sqrt-settled-by-attribute : (f : Format) → Fair f → (a : Attribute) (o s : ℕ → ℕ) (F : ℕ → Flags) → SqrtRows f o s → SqrtFlagRows f F
-    → ((x u : ℕ) → kind f x ≡ finite u → (minus f x ≡ true → u ≡ 0) → RuleIn f a (minus f x) (exactSqrt f x) (o x) × FlagsRule f a (minus f x) (exactSqrt f x) (sqrtIn f a x) (F x))
-    → (x : ℕ) → Pattern f x → (o x ≡ sqrtIn f a x) × (F x ≡ sqrtFlagsIn f a x)
-sqrt-settled-by-attribute f g a o s F rows flags rules x p = (
-  sqrt-settled f g a o s rows (λ y u h z. rules y u h z .0) x p .0,
-  sqrt-flags-settled f g a F flags (λ y u h z. rules y u h z .1) x,
-)
-
--- code: none, no function takes an attribute or gives flags
+-- code: none, no function takes an attribute
 pub fma-settled-by-attribute : (f : Format) → Fair f → (a : Attribute) (x y z r : ℕ) (F : Flags) → FmaRows f a x y z r → FmaFlagRows f x y z F
     → ((u v w : ℕ) → kind f x ≡ finite u → kind f y ≡ finite v → kind f z ≡ finite w
-    → RuleIn f a (zeroSign f a x y z) (exactFma f x y z) r × FlagsRule f a (zeroSign f a x y z) (exactFma f x y z) (fmaIn f a x y z) F)
+    → RuleIn f a (zeroSign f a x y z) (exactFma f x y z) r × FlagsRule f a (zeroSign f a x y z) (exactFma f x y z) r F)
     → Pattern f z → (r ≡ fmaIn f a x y z) × (F ≡ fmaFlagsIn f a x y z)
-fma-settled-by-attribute f g a x y z r F rows flags rules p = (
-  fma-settled f g a x y z r rows (λ u v w h k l. rules u v w h k l .0) p,
-  fma-flags-settled f g a x y z F flags (λ u v w h k l. rules u v w h k l .1),
-)
+fma-settled-by-attribute = fma-raises-settled
 
--- code: none, no function takes an attribute or gives flags
+-- code: none, no function takes an attribute
 pub scalbn-settled-by-attribute : (f : Format) → Fair f → (a : Attribute) (x : ℕ) (n : ℤ) (r : ℕ) (F : Flags) → ScalbnRows f x n r → ScalbnFlagRows f x F
-    → ((u : ℕ) → kind f x ≡ finite u → RuleIn f a (minus f x) (exactScalbn f x n) r × FlagsRule f a (minus f x) (exactScalbn f x n) (scalbnIn f a x n) F)
+    → ((u : ℕ) → kind f x ≡ finite u → RuleIn f a (minus f x) (exactScalbn f x n) r × FlagsRule f a (minus f x) (exactScalbn f x n) r F)
     → (r ≡ scalbnIn f a x n) × (F ≡ scalbnFlagsIn f a x n)
-scalbn-settled-by-attribute f g a x n r F rows flags rules = (
-  scalbn-settled f g a x n r rows (λ u h. rules u h .0),
-  scalbn-flags-settled f g a x n F flags (λ u h. rules u h .1),
-)
+scalbn-settled-by-attribute = scalbn-raises-settled
 
--- code: none, no function takes an attribute or gives flags
--- and one function of patterns has the flags of floor, and one those of trunc
-pub whole-flags-are-settled : (f : Format) (o : ℕ → ℕ) (F G : ℕ → Flags) → WholeFlagRows f o F → WholeFlagRows f o G → (x : ℕ) → F x ≡ G x
-whole-flags-are-settled = whole-flags-settled
-
--- code: none, no function takes an attribute or gives flags
--- whatever the operands: overflow and underflow imply inexact, invalid stands alone, division by zero never
-pub flags-are-clean : (f : Format) → Fair f → (a : Attribute) (x y z : ℕ) (n : ℤ)
+-- code: none, no function takes an attribute
+-- whatever the operands and the attribute
+pub flags-are-clean-by-attribute : (f : Format) → Fair f → (a : Attribute) (x y z : ℕ) (n : ℤ)
     → Clean (sqrtFlagsIn f a x) × Clean (fmaFlagsIn f a x y z) × Clean (scalbnFlagsIn f a x n) × Clean (wholeFlagsIn f a x)
-flags-are-clean f g a x y z n = (sqrt-clean f g a x, fma-clean f g a x y z, scalbn-clean f g a x n, whole-clean f a x)
+flags-are-clean-by-attribute f g a x y z n = (sqrt-clean f g a x, fma-clean f g a x y z, scalbn-clean f g a x n, whole-clean f a x)
 
--- code: none, no function takes an attribute or gives flags
+-- code: none, no function takes an attribute
 -- a root never overflows; nor does it underflow, in a format with one exponent more below 1 than a fair one must have, as b16, b32 and b64 have
 pub sqrt-never-overflows : (f : Format) → Fair f → (a : Attribute) (x : ℕ) → sqrtFlagsIn f a x .overflow ≡ false
 sqrt-never-overflows = sqrt-no-overflow
 
--- code: none, no function takes an attribute or gives flags
+-- code: none, no function takes an attribute
 pub sqrt-never-underflows : (f : Format) → Fair f → (a : Attribute) (x : ℕ) → f .frac + 1 < 2 ^ (f .expo - 1) → sqrtFlagsIn f a x .underflow ≡ false
 sqrt-never-underflows = sqrt-no-underflow
 
@@ -419,18 +500,18 @@ sqrt-never-underflows = sqrt-no-underflow
 pub standard-formats-have-room : (b16 .frac + 1 < 2 ^ (b16 .expo - 1)) × (b32 .frac + 1 < 2 ^ (b32 .expo - 1)) × (b64 .frac + 1 < 2 ^ (b64 .expo - 1))
 standard-formats-have-room = (lit< tt, lit< tt, lit< tt)
 
--- code: none, no function takes an attribute or gives flags
+-- code: none, no function takes an attribute
 -- tolerance bands: down and up hold the exact value between them, none is tighter, and the two are one number exactly when nothing is inexact
 pub sqrt-has-a-band : (f : Format) → Fair f → (x u : ℕ) → kind f x ≡ finite u → (minus f x ≡ true → u ≡ 0)
     → Band f (exactSqrt f x) (sqrtIn f toward-negative x) (sqrtIn f toward-positive x) (sqrtFlagsIn f toward-negative x) (sqrtFlagsIn f toward-positive x)
 sqrt-has-a-band = sqrt-band
 
--- code: none, no function takes an attribute or gives flags
+-- code: none, no function takes an attribute
 pub fma-has-a-band : (f : Format) → Fair f → (x y z u v w : ℕ) → kind f x ≡ finite u → kind f y ≡ finite v → kind f z ≡ finite w
     → Band f (exactFma f x y z) (fmaIn f toward-negative x y z) (fmaIn f toward-positive x y z) (fmaFlagsIn f toward-negative x y z) (fmaFlagsIn f toward-positive x y z)
 fma-has-a-band = fma-band
 
--- code: none, no function takes an attribute or gives flags
+-- code: none, no function takes an attribute
 pub scalbn-has-a-band : (f : Format) → Fair f → (x u : ℕ) (n : ℤ) → kind f x ≡ finite u
     → Band f (exactScalbn f x n) (scalbnIn f toward-negative x n) (scalbnIn f toward-positive x n) (scalbnFlagsIn f toward-negative x n) (scalbnFlagsIn f toward-positive x n)
 scalbn-has-a-band = scalbn-band
@@ -447,9 +528,9 @@ pub table-holds-its-rule : (i m : ℕ) → Serves i m → (65280 ^ 2 * 2 ^ 30 < 
 table-holds-its-rule = between
 
 -- code: sqrt::sqrt_pattern, as sqrt-is-settled
--- of a pattern x, `sqrt_pattern` by digits and `sqrt64` and `sqrt32` by the table; the statuses take no root: whatever meets the contract of either route, with the contract of the status, is one answer
-pub routes-give-one-answer : (f : Format) (x r s a b : ℕ) → (r ≡ sqrtOf f x) × (a ≡ sqrtStatus f x) → (s ≡ sqrtOf f x) × (b ≡ sqrtStatus f x) → (r ≡ s) × (a ≡ b)
-routes-give-one-answer f x r s a b (p, i) (q, j) = (cc, cc)
+-- of a pattern x, `sqrt_pattern` by digits and `sqrt64` and `sqrt32` by the table: whatever meets the contract of either route is one answer
+pub routes-give-one-answer : (f : Format) (x r s : ℕ) → r ≡ sqrtOf f x → s ≡ sqrtOf f x → r ≡ s
+routes-give-one-answer f x r s p q = cc
 
 -- ======== What shows that the definitions say what they should
 -- code: none, worked cases of the definitions
@@ -463,7 +544,7 @@ pub flag-cases-hold : FlagCases
 flag-cases-hold = flag-cases
 
 -- code: none, worked cases of the definitions
--- at neither width is a lazy answer the definition's: the canonical NaN to everything, a NaN as it came, a quotient always zero, all refused, the output untouched, the first place alone filled, always OK, no flag ever, always inexact
+-- at neither width is a lazy answer the definition's: the canonical NaN to everything, a NaN as it came, a quotient always zero, all refused, the output untouched, the first place alone filled, no flag ever, always inexact
 pub lazy-answers-differ : Lazy64 × Lazy32
 lazy-answers-differ = (lazy64, lazy32)
 

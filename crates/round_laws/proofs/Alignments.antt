@@ -1,23 +1,22 @@
 -- How a normalised significand is aligned to the format, by its exponent: four cases. Assumes nothing.
 use Prim.Native.Nat.{ℕ, suc, _+_, _-_, _*_, _/_, _%_, _^_, _≤_, _<_}
-use mathlib.Core.Path.{_≡_, refl, sym, ap, _∙_}
+use mathlib.Core.Path.{_≡_, refl, sym, _∙_}
+use mathlib.Core.Bool.{true, false}
 use native.Mathlib.Omega.{arith}
 use lib.Pow.{pow-pos, pow-mono}
 use lib.IntN.{ℤ, pos, _+ℤ_, _-ℤ_}
 use lib.Signed.{mag}
 use lib.Count.{leadingZeros}
-use Rattle.algebra.proofs.Products.{le-split, times}
-use Rattle.algebra.proofs.Quotients.{div-is}
 use Rattle.algebra.proofs.Integers.{up, dn, addZ, subZ, eqZ-fact, magZ-fact}
 use Rattle.algebra.proofs.Leading.{leading-fills}
 use Rattle.ieee.specs.Format.{Format, inf}
-use Rattle.round_laws.specs.Location.{below, location, part, stretched}
+use Rattle.round_laws.specs.Location.{below, location, high, beyond, part, highPart, stretched}
 use Rattle.fmt_fields.specs.Width.{format, Fits}
 use Rattle.round_laws.specs.Aligned.{filledAt, Stands}
-use Rattle.round_laws.proofs.Parts.{all-gone, part-beyond}
+use Rattle.round_laws.proofs.Parts.{all-gone}
 use Rattle.round_laws.proofs.Locations.{Lies, locate-normal, locate-subnormal, locate-over}
 use Rattle.round_laws.proofs.Stretched.{stretched-same, same-lies}
-use Rattle.fmt_fields.proofs.Widths.{four-fields, fills-least, fills-most, extra-bits, kept-small}
+use Rattle.fmt_fields.proofs.Widths.{four-fields, fills-least, fills-most, kept-small}
 
 -- ---- normalised: u times 2 ^ n is s times 2 ^ (at - 2 ^ 21), and s fills its word
 pub record Filled (u : ℕ) (n : ℤ) (s at : ℕ) : Type 0 where
@@ -39,13 +38,13 @@ filled u n s at p l m e q =
     record { zeros = z; moved = sym e; least = omega (arith, f .least); most = omega (arith, f .most); level = h; small = omega arith }
 
 -- both have the same neighbour and location
-pub filled-lies : (f : Format) {u s at : ℕ} {n : ℤ} → Filled u n s at → Lies f (stretched u n) (below f (filledAt s at)) (location f (filledAt s at))
+pub filled-lies : (f : Format) {u s at : ℕ} {n : ℤ} → Filled u n s at → Lies f (stretched u n) (below f (filledAt s at)) (location f (filledAt s at)) (high f (filledAt s at)) (beyond f (filledAt s at))
 filled-lies f {u} {s} {at} {n} i =
-    same-lies f (stretched u n) (filledAt s at) (stretched-same u (i .zeros) s n (i .moved) (at - 2 ^ 21) (2 ^ 21 - at) (omega (arith, i .level))) (refl, refl)
+    same-lies f (stretched u n) (filledAt s at) (stretched-same u (i .zeros) s n (i .moved) (at - 2 ^ 21) (2 ^ 21 - at) (omega (arith, i .level))) (refl, refl, refl, refl)
 
 -- ---- the four cases
 module _ {p e : ℕ} (w : Fits p e) (s at : ℕ) (l : 2 ^ 63 ≤ s) (m : s < 2 ^ 64) where
-  low-lies : (k : ℕ) → at + k ≡ 2 ^ 21 → 63 - p ≤ k → Lies (format p e) (filledAt s at) (s / 2 ^ k) (part (s % 2 ^ k) (2 ^ k))
+  low-lies : (k : ℕ) → at + k ≡ 2 ^ 21 → 63 - p ≤ k → Lies (format p e) (filledAt s at) (s / 2 ^ k) (part (s % 2 ^ k) (2 ^ k)) (highPart (s % 2 ^ k) (2 ^ k)) false
   low-lies k h q =
       locate-subnormal (format p e) (w .fair) s (at - 2 ^ 21) (2 ^ 21 - at) k
       (omega (arith, fills-most w s m, pow-mono {i = 63 - p + suc p} {j = k + suc p} (omega arith))) (omega arith)
@@ -53,10 +52,12 @@ module _ {p e : ℕ} (w : Fits p e) (s at : ℕ) (l : 2 ^ 63 ≤ s) (m : s < 2 ^
   pub stands-low : at + (63 - p) < 2 ^ 21 → 2 ^ 21 ≤ at + 64 → Stands p e s at s 0 (2 ^ 21 - at)
   stands-low h q =
       let k = 2 ^ 21 - at in
-      let (a, b) = low-lies k (omega arith) (omega arith) in
+      let (a, b, c, d) = low-lies k (omega arith) (omega arith) in
       record {
         lower = omega (arith, a);
         part-is = sym b;
+        high-is = sym c;
+        beyond-is = sym d;
         fields = omega (arith, four-fields w);
         least = omega arith;
         most = omega arith;
@@ -67,11 +68,13 @@ module _ {p e : ℕ} (w : Fits p e) (s at : ℕ) (l : 2 ^ 63 ≤ s) (m : s < 2 ^
   pub stands-nothing : at + 64 < 2 ^ 21 → Stands p e s at 1 0 64
   stands-nothing h =
       let k = 2 ^ 21 - at in
-      let (a, b) = low-lies k (omega arith) (omega arith) in
-      let (q, r) = all-gone s k (omega arith) (omega (arith, pow-mono {i = 65} {j = k} (omega arith))) in
+      let (a, b, c, d) = low-lies k (omega arith) (omega arith) in
+      let (q, r, h) = all-gone s k (omega arith) (omega (arith, pow-mono {i = 65} {j = k} (omega arith))) in
       record {
         lower = omega (arith, a, q);
         part-is = sym (b ∙ r);
+        high-is = sym (c ∙ h);
+        beyond-is = sym d;
         fields = omega (arith, four-fields w);
         least = omega arith;
         most = omega arith;
@@ -80,42 +83,19 @@ module _ {p e : ℕ} (w : Fits p e) (s at : ℕ) (l : 2 ^ 63 ≤ s) (m : s < 2 ^
 
   pub stands-normal : (c : ℕ) → at + (63 - p) ≡ c + 2 ^ 21 → c + 3 ≤ 2 ^ e → Stands p e s at s c (63 - p)
   stands-normal c h q =
-      let (a, b) =
+      let (a, b, i, j) =
       locate-normal (format p e) (w .fair) (63 - p) s (at - 2 ^ 21) (2 ^ 21 - at) c (fills-least w s l) (fills-most w s m) (omega arith) (omega arith) in
       record {
         lower = sym a;
         part-is = sym b;
+        high-is = sym i;
+        beyond-is = sym j;
         fields = omega arith;
         least = omega (arith, w .word, w .fair .expo-two);
         most = omega arith;
         kept = kept-small w s (63 - p) m (omega arith);
       }
 
-  -- past the largest finite number: as a significand of ones under the last exponent
-  pub stands-over : (c : ℕ) → at + (63 - p) ≡ c + 2 ^ 21 → 2 ^ e < c + 3 → Stands p e s at (2 ^ 64 - 1) (2 ^ e - 3) (63 - p)
-  stands-over c h q =
-      let X = 63 - p in
-      let (a, b) = locate-over (format p e) (w .fair) X s (at - 2 ^ 21) (2 ^ 21 - at) c (fills-least w s l) (omega arith) (omega (arith, four-fields w)) in
-      let four : 4 ≤ 2 ^ X = pow-mono {i = 2} {j = X} (omega (arith, w .word, w .fair .expo-two)) in
-      let (d, r) : ((2 ^ 64 - 1) / 2 ^ X ≡ 2 * 2 ^ p - 1) × ((2 ^ 64 - 1) % 2 ^ X ≡ 2 ^ X - 1) = ones-located in
-      record {
-        lower = ap (λ n. (2 ^ e - 3) * 2 ^ p + n) d ∙ last-pattern ∙ sym a;
-        part-is = ap (λ n. part n (2 ^ X)) r ∙ part-beyond (2 ^ X - 1) (2 ^ X) (omega arith) ∙ sym b;
-        fields = omega (arith, four-fields w);
-        least = omega (arith, w .word, w .fair .expo-two);
-        most = omega arith;
-        kept = omega (arith, d, pow-pos p);
-      }
-    where
-      ones-located : ((2 ^ 64 - 1) / 2 ^ (63 - p) ≡ 2 * 2 ^ p - 1) × ((2 ^ 64 - 1) % 2 ^ (63 - p) ≡ 2 ^ (63 - p) - 1)
-      ones-located =
-          let (t, u) = le-split {a = 1} {b = 2 * 2 ^ p} (omega (arith, pow-pos p)) in
-          let i : 2 * 2 ^ p - 1 ≡ t = omega arith in
-          rw i (div-is (2 ^ 64 - 1) (2 ^ (63 - p)) t (2 ^ (63 - p) - 1) (omega (arith, pow-pos (63 - p))) (omega (arith, pow-pos (63 - p), extra-bits w, times (2 ^ (63 - p)) u)))
-
-      last-pattern : (2 ^ e - 3) * 2 ^ p + (2 * 2 ^ p - 1) ≡ inf (format p e) - 1
-      last-pattern =
-          let (t, u) = le-split {a = 3} {b = 2 ^ e} (omega (arith, four-fields w)) in
-          let i : 2 ^ e - 3 ≡ t = omega arith in
-          let j : 2 ^ e - 1 ≡ t + 2 = omega arith in
-          rw (i, j) (omega (arith, pow-pos p))
+  -- past the largest finite number
+  pub lies-over : (c : ℕ) → at + (63 - p) ≡ c + 2 ^ 21 → 2 ^ e < c + 3 → Lies (format p e) (filledAt s at) (inf (format p e) - 1) 3 true true
+  lies-over c h q = locate-over (format p e) (w .fair) (63 - p) s (at - 2 ^ 21) (2 ^ 21 - at) c (fills-least w s l) (omega arith) (omega (arith, four-fields w))

@@ -13,7 +13,7 @@ use Rattle.ieee.proofs.Units.{units-rise, units-zero}
 use Rattle.ieee.proofs.Past.{Past, passes-reads, rounded-is, rounded-past, rounded-not-past, rounded-le}
 use Rattle.ieee.proofs.Rule.{inf-pos}
 use Rattle.ieee.proofs.Local.{From, local}
-use Rattle.round_laws.specs.Location.{below, locationAbove, location, chosen}
+use Rattle.round_laws.specs.Location.{below, locationAbove, location, highAbove, beyondAbove, high, beyond, chosen}
 use Rattle.round_laws.proofs.Parts.{location-most}
 
 -- a magnitude that is at most x, while the next is above x, is the lower neighbour
@@ -53,6 +53,14 @@ below-finite f g x = below-from f g x .finite
 pub location-above-is : (f : Format) (x : Exact) (m : ℕ) → below f x ≡ m → location f x ≡ locationAbove f m x
 unfolding location
 location-above-is f x m e = ap (λ n. locationAbove f n x) e
+
+pub high-above-is : (f : Format) (x : Exact) (m : ℕ) → below f x ≡ m → high f x ≡ highAbove f m x
+unfolding high
+high-above-is f x m e = ap (λ n. highAbove f n x) e
+
+pub beyond-above-is : (f : Format) (x : Exact) (m : ℕ) → below f x ≡ m → beyond f x ≡ beyondAbove f m x
+unfolding beyond
+beyond-above-is f x m e = ap (λ n. beyondAbove f n x) e
 
 pub location-le : (f : Format) (x : Exact) → location f x ≤ 3
 location-le f x =

@@ -1,15 +1,15 @@
 -- The location of shifted-out bits: the last bit of a quotient and whether its remainder is 0. Assumes nothing.
-use Prim.Native.Nat.{ℕ, zero, suc, _+_, _*_, _/_, _%_, _^_, _≤_, _<_}
+use Prim.Native.Nat.{ℕ, zero, suc, _+_, _-_, _*_, _/_, _%_, _^_, _≤_, _<_}
 use mathlib.Core.Path.{_≡_, sym, ap, _∙_}
 use mathlib.Core.Bool.{Bool, true, false, cond}
 use native.Mathlib.Omega.{arith}
-use lib.Dec.{eqb}
-use lib.Pow.{pow-pos}
+use lib.Dec.{leb, eqb}
+use lib.Pow.{pow-add, pow-pos}
 use native.Mathlib.Nat.{two-pow-succ}
-use Rattle.algebra.proofs.Products.{times, times-le}
-use Rattle.algebra.proofs.Quotients.{div-mod, div-is}
-use Rattle.ieee.proofs.Decide.{Reads, so, not-so, eqb-reads}
-use Rattle.round_laws.specs.Location.{part}
+use Rattle.algebra.proofs.Products.{times, times-le, mul-le-cancel}
+use Rattle.algebra.proofs.Quotients.{div-mod, div-is, mod-is}
+use Rattle.ieee.proofs.Decide.{Reads, so, not-so, alike, leb-reads, eqb-reads}
+use Rattle.round_laws.specs.Location.{part, highPart}
 use Rattle.round_laws.proofs.Parts.{part-at, part-before, part-middle, part-beyond}
 
 -- the location of a remainder that consists of a bit b and r below it
@@ -48,3 +48,20 @@ module _ (s j k d : ℕ) (e : d ≡ 2 ^ j) (i : k ≡ suc j) where
 pub mark-le : (b : Bool) → cond b 0 1 ≤ 1
 mark-le true = omega arith
 mark-le false = omega arith
+
+-- the last k bits at the top of a word
+pub top-bits : (s k : ℕ) → k ≤ 64 → s * 2 ^ (64 - k) % 2 ^ 64 ≡ s % 2 ^ k * 2 ^ (64 - k)
+top-bits s k l =
+    let d = div-mod s (2 ^ k) (pow-pos k) in
+    let whole : 2 ^ k * 2 ^ (64 - k) ≡ 2 ^ 64 = sym (pow-add 2 k (64 - k)) ∙ ap (λ n. 2 ^ n) {x = k + (64 - k)} {y = 64} (omega arith) in
+    mod-is (s * 2 ^ (64 - k)) (2 ^ 64) (s / 2 ^ k) (s % 2 ^ k * 2 ^ (64 - k))
+    (omega (arith, whole, times-le (2 ^ (64 - k)) (d .1), pow-pos (64 - k)))
+    (omega (arith, times (s / 2 ^ k) whole, times (2 ^ (64 - k)) (d .0)))
+
+-- they are high where they are at least three quarters of the word
+pub high-bits : (s k : ℕ) → k ≤ 64 → leb (3 * 2 ^ 62) (s * 2 ^ (64 - k) % 2 ^ 64) ≡ highPart (s % 2 ^ k) (2 ^ k)
+high-bits s k l =
+    let whole : 2 ^ k * 2 ^ (64 - k) ≡ 2 ^ 64 = sym (pow-add 2 k (64 - k)) ∙ ap (λ n. 2 ^ n) {x = k + (64 - k)} {y = 64} (omega arith) in
+    let t = top-bits s k l in
+    alike (leb-reads (3 * 2 ^ 62) (s * 2 ^ (64 - k) % 2 ^ 64)) (leb-reads (3 * 2 ^ k) (4 * (s % 2 ^ k)))
+    (λ h. mul-le-cancel (3 * 2 ^ k) (4 * (s % 2 ^ k)) (2 ^ (64 - k)) (pow-pos (64 - k)) (omega (arith, whole, t)), λ h. omega (arith, whole, t, times-le (2 ^ (64 - k)) h))

@@ -4,3 +4,4 @@ pub mod Halves
 pub mod Parts
 pub mod Alignments
 pub mod Stretched
+pub mod Flagged

@@ -1,13 +1,14 @@
 -- The location of u times 2 ^ n, where s is u shifted left by z bits. Assumes nothing.
 use Prim.Native.Nat.{ℕ, suc, _+_, _*_, _^_, _<_}
 use mathlib.Core.Path.{_≡_, refl, sym, ap, _∙_}
+use mathlib.Core.Bool.{Bool, false}
 use native.Mathlib.Omega.{arith}
 use lib.Pow.{pow-add, pow-pos}
 use lib.IntN.{ℤ, pos, negsuc}
 use Rattle.algebra.proofs.Products.{times}
 use Rattle.algebra.proofs.Integers.{up, dn}
 use Rattle.ieee.specs.Format.{Format, Fair, units}
-use Rattle.ieee.specs.Exact.{Exact, ratio}
+use Rattle.ieee.specs.Exact.{Exact, ratio, magnified}
 use Rattle.ieee.specs.Round.{Way, shorter, rounded, middle}
 use Rattle.ieee.proofs.Decide.{alike}
 use Rattle.ieee.proofs.Sides.{Sound, over-reads, under-reads}
@@ -15,8 +16,8 @@ use Rattle.ieee.proofs.Alike.{Beside, threshold, same-side}
 use Rattle.ieee.proofs.Rises.{ratio-at-most}
 use Rattle.round_laws.specs.Location.{below, stretched}
 use Rattle.round_laws.proofs.Parts.{tells}
-use Rattle.round_laws.proofs.Choices.{location-above-is}
-use Rattle.round_laws.proofs.Locations.{Lies, locate-zero}
+use Rattle.round_laws.proofs.Choices.{location-above-is, high-above-is, beyond-above-is}
+use Rattle.round_laws.proofs.Locations.{Lies, lies, locate-zero}
 
 -- ---- one value in two forms
 pub same-ratio : (n d k e : ℕ) → 0 < d → 0 < e → n * e ≡ k * d → (s : ℕ) → Beside (ratio n d) (ratio k e) s
@@ -25,15 +26,22 @@ same-ratio n d k e p q h s =
     let b = ratio-at-most k e n d q p (omega arith) in
     record { above = (a .ups s, b .ups s); below = (b .downs s, a .downs s) }
 
--- values that compare alike have the same neighbour and location
-pub same-lies : (f : Format) (x y : Exact) → ((s : ℕ) → Beside x y s) → {m p : ℕ} → Lies f y m p → Lies f x m p
+-- values that compare alike, and doubled too, lie alike
+abbrev pub Same : Exact → Exact → Type 0
+Same x y = (s : ℕ) → Beside x y s × Beside (magnified x 2) (magnified y 2) s
+
+pub same-lies : (f : Format) (x y : Exact) → Same x y → {m p : ℕ} {h c : Bool} → Lies f y m p h c → Lies f x m p h c
 unfolding below
-same-lies f x y b {m} {p} l =
+same-lies f x y a {m} {p} l =
+    let b : (s : ℕ) → Beside x y s = λ s. a s .0 in
+    let q = l .0 in
     let e : below f x ≡ m = same-side f shorter x y (λ j k. b (threshold f shorter j)) ∙ l .0 in
     let at-m = alike (under-reads x (2 * units f m)) (under-reads y (2 * units f m)) (b (2 * units f m) .below) in
     let at-least = alike (over-reads x (middle f m)) (over-reads y (middle f m)) (b (middle f m) .above) in
     let at-most = alike (under-reads x (middle f m)) (under-reads y (middle f m)) (b (middle f m) .below) in
-    (e, location-above-is f x m e ∙ tells at-m at-least at-most ∙ sym (location-above-is f y m (l .0)) ∙ l .1)
+    let high = alike (over-reads (magnified x 2) (units f m + 3 * units f (suc m))) (over-reads (magnified y 2) (units f m + 3 * units f (suc m))) (a (units f m + 3 * units f (suc m)) .1 .above) in
+    let next = alike (over-reads x (2 * units f (suc m))) (over-reads y (2 * units f (suc m))) (b (2 * units f (suc m)) .above) in
+    lies f x m e (tells at-m at-least at-most ∙ sym (location-above-is f y m q) ∙ l .1) (high ∙ sym (high-above-is f y m q) ∙ l .2) (next ∙ sym (beyond-above-is f y m q) ∙ l .3)
 
 pub stretched-sound : (u : ℕ) (n : ℤ) → Sound (stretched u n)
 stretched-sound u (pos n) = omega arith
@@ -43,8 +51,11 @@ pub stretched-ratio : (u : ℕ) (n : ℤ) → stretched u n ≡ ratio (u * 2 ^ u
 stretched-ratio u (pos n) = refl
 stretched-ratio u (negsuc n) = ap (λ k. ratio k (2 ^ suc n)) (omega arith)
 
-pub stretched-same : (u z s : ℕ) (n : ℤ) → u * 2 ^ z ≡ s → (c X : ℕ) → up n + X ≡ dn n + z + c → (t : ℕ) → Beside (stretched u n) (ratio (s * 2 ^ c) (2 ^ X)) t
-stretched-same u z s n e c X q t = rw stretched-ratio (same-ratio (u * 2 ^ up n) (2 ^ dn n) (s * 2 ^ c) (2 ^ X) (pow-pos (dn n)) (pow-pos X) h t)
+pub stretched-same : (u z s : ℕ) (n : ℤ) → u * 2 ^ z ≡ s → (c X : ℕ) → up n + X ≡ dn n + z + c → Same (stretched u n) (ratio (s * 2 ^ c) (2 ^ X))
+stretched-same u z s n e c X q t = rw stretched-ratio (
+  same-ratio (u * 2 ^ up n) (2 ^ dn n) (s * 2 ^ c) (2 ^ X) (pow-pos (dn n)) (pow-pos X) h t,
+  same-ratio (u * 2 ^ up n * 2) (2 ^ dn n) (s * 2 ^ c * 2) (2 ^ X) (pow-pos (dn n)) (pow-pos X) (omega (arith, h)) t,
+)
   where
     level : 2 ^ up n * 2 ^ X ≡ 2 ^ dn n * 2 ^ z * 2 ^ c
     level = sym (pow-add 2 (up n) X) ∙ ap (λ k. 2 ^ k) q ∙ pow-add 2 (dn n + z) c ∙ times (2 ^ c) (pow-add 2 (dn n) z)
@@ -71,5 +82,5 @@ ratio-stretched f w s a b n e = same-side f w (ratio (s * 2 ^ a) (2 ^ b)) (stret
     beside : (t : ℕ) → Beside (ratio (s * 2 ^ a) (2 ^ b)) (ratio (s * 2 ^ up n) (2 ^ dn n)) t
     beside = same-ratio (s * 2 ^ a) (2 ^ b) (s * 2 ^ up n) (2 ^ dn n) (pow-pos b) (pow-pos (dn n)) (omega (arith, times s level))
 
-pub stretched-zero : (f : Format) → Fair f → (n : ℤ) → Lies f (stretched 0 n) 0 0
+pub stretched-zero : (f : Format) → Fair f → (n : ℤ) → Lies f (stretched 0 n) 0 0 false false
 stretched-zero f g n = same-lies f _ _ (stretched-same 0 0 0 n refl (up n) (dn n) (omega arith)) (locate-zero f g (up n) (dn n))

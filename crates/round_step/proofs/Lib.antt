@@ -6,3 +6,4 @@ pub mod Rounds
 pub mod Scaled
 pub mod Sticky
 pub mod StickyFlags
+pub mod Outcomes

@@ -38,7 +38,7 @@ raised-scaled f a s u (pos n) = raised-of f a s s (u * 2 ^ n) 0 (sign-own s (u *
 raised-scaled f a s u (negsuc n) = raised-of f a s s u (suc n) (sign-own s u (suc n))
 
 -- s steps of 2 ^ a / 2 ^ b, which is 2 ^ n
-stretched-flags : (f : Format) → Fair f → (w : Way) (s a b : ℕ) (n : ℤ) → up n + b ≡ dn n + a → raisedBy f w (ratio (s * 2 ^ a) (2 ^ b)) ≡ raisedBy f w (stretched s n)
+pub stretched-flags : (f : Format) → Fair f → (w : Way) (s a b : ℕ) (n : ℤ) → up n + b ≡ dn n + a → raisedBy f w (ratio (s * 2 ^ a) (2 ^ b)) ≡ raisedBy f w (stretched s n)
 stretched-flags f g w s a b n e =
     let level : 2 ^ a * 2 ^ dn n ≡ 2 ^ up n * 2 ^ b = sym (pow-add 2 a (dn n)) ∙ ap (λ i. 2 ^ i) (omega arith) ∙ pow-add 2 (up n) b in
     ratio-flags f g w (s * 2 ^ a) (2 ^ b) (s * 2 ^ up n) (2 ^ dn n) (pow-pos b) (pow-pos (dn n)) (omega (arith, times s level)) ∙ ap (raisedBy f w) (sym (stretched-ratio s n))

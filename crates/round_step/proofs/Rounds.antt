@@ -1,19 +1,29 @@
--- Locate and choose give the answer, and all of it fits in a word. Assumes nothing.
+-- Locate and choose give the answer and the flags, and all of it fits in a word. Assumes nothing.
 use Prim.Native.Nat.{ℕ, suc, _+_, _%_, _^_, _≤_, _<_}
-use mathlib.Core.Path.{_≡_, sym, ap, ap₂, _∙_}
-use mathlib.Core.Bool.{Bool, true, false, cond}
+use mathlib.Core.Path.{_≡_, refl, sym, _∙_}
+use mathlib.Core.Bool.{Bool, true, false, not, _&&_, _||_, cond}
 use native.Mathlib.Omega.{arith}
 use lib.Dec.{ltb, leb, eqb}
 use lib.Pow.{pow-mono}
+use borrow.Author.Tests.{ne-eqb, le-ltb}
 use lib.IntN.{ℤ}
 use Rattle.ieee.specs.Format.{Format, Fair, inf}
 use Rattle.ieee.specs.Pattern.{signed}
-use Rattle.ieee.specs.Round.{Way, even, away, shorter, longer, ties-to-even, answer}
+use Rattle.ieee.specs.Exact.{Exact}
+use Rattle.ieee.specs.Round.{Way, even, away, shorter, longer, Attribute, toward-positive, toward-negative, wayOf}
+use Rattle.ieee.specs.Flags.{judged, onlyInexact, largest}
 use Rattle.ieee.specs.Scalbn.{scaled}
+use Rattle.ieee.proofs.Decide.{Reads, holds, leb-reads, and-reads}
 use Rattle.ieee.proofs.Patterns.{inf-below-top}
-use Rattle.round_laws.specs.Location.{below, location, chosen, stretched}
+use Rattle.round_laws.specs.Location.{below, location, high, beyond, chosen, stretched}
+use Rattle.round_laws.specs.Flags.{exceeds, rises, flagsBy}
+use Rattle.round_laws.proofs.Choices.{below-finite, location-le}
+use Rattle.round_laws.proofs.Flagged.{flags-by}
+use Rattle.round_laws.proofs.Stretched.{stretched-sound}
 use Rattle.fmt_fields.specs.Width.{format, Fits}
+use Rattle.round_step.specs.Outcome.{outcome}
 use Rattle.round_step.proofs.Scaled.{answer-chosen}
+use Rattle.round_step.proofs.MarkedFlags.{raised-scaled}
 
 one-more : (b : Bool) (m : ℕ) → m + cond b 1 0 ≤ suc m
 one-more true m = omega arith
@@ -38,7 +48,42 @@ module _ {p e : ℕ} (w : Fits p e) (m : ℕ) (l : m < inf (format p e)) where
   pub chosen-in-word : (v : Way) (q : ℕ) → chosen v m q < 2 ^ (p + e)
   chosen-in-word v q = omega (arith, chosen-le v m q, inf-below-top (format p e))
 
--- the two steps give the answer
-pub round-is : (f : Format) → Fair f → (s : Bool) (u : ℕ) (n : ℤ) (m p r : ℕ) → m ≡ below f (stretched u n) → p ≡ location f (stretched u n) → r ≡ signed f s (chosen even m p)
-    → r ≡ answer f ties-to-even s (scaled s u n)
-round-is f g s u n m p r a b e = e ∙ ap (signed f s) (ap₂ (chosen even) a b) ∙ sym (answer-chosen f g ties-to-even s u n)
+-- a location is one that can be chosen by
+pub in-bounds : {p e : ℕ} → Fits p e → {m q : ℕ} (x : Exact) → m ≡ below (format p e) x → q ≡ location (format p e) x → (m < inf (format p e)) × (q ≤ 3)
+in-bounds {p} {e} w x i j = (omega (arith, i, below-finite (format p e) (w .fair) x), omega (arith, j, location-le (format p e) x))
+
+-- the next is taken where a test fails
+pub next-unless : (m : ℕ) (b : Bool) → m + cond (not b) 1 0 ≡ m + cond b 0 1
+next-unless m true = refl
+next-unless m false = refl
+
+-- toward an infinity is away from zero on its side
+pub down-way : (s : Bool) → cond s longer shorter ≡ wayOf toward-negative s
+down-way true = refl
+down-way false = refl
+
+pub up-way : (s : Bool) → cond (not s) longer shorter ≡ wayOf toward-positive s
+up-way true = refl
+up-way false = refl
+
+-- ---- from the least normal number up, and below the largest, only inexact can be raised
+pub inside-flags : (f : Format) (w : Way) (m l : ℕ) (h b : Bool) → leb (2 ^ f .frac) m && ltb m (largest f) ≡ true → onlyInexact (leb 1 l) ≡ flagsBy f w m l h b
+inside-flags f w m l h b i =
+    let (k, j) = both-true (leb-reads (2 ^ f .frac) m) (leb-reads (suc m) (largest f)) i in
+    let o : eqb m (largest f) ≡ false = ne-eqb m (largest f) (omega arith) in
+    let t : ltb (suc m) (2 ^ f .frac) ≡ false = le-ltb (suc m) (2 ^ f .frac) (omega arith) in
+    let e : eqb (suc m) (2 ^ f .frac) ≡ false = ne-eqb (suc m) (2 ^ f .frac) (omega arith) in
+    sym (λ n. judged (o n && exceeds w l b) (t n || (e n && not (rises w l h b))) (leb 1 l))
+  where
+    both-true : {A B : Type 0} {p q : Bool} → Reads A p → Reads B q → p && q ≡ true → A × B
+    both-true p q i = holds (and-reads p q) i
+
+-- ---- locate and choose give the answer and the flags
+pub round-is : (f : Format) → Fair f → (a : Attribute) (s : Bool) (u : ℕ) (n : ℤ) {m p : ℕ} {h b : Bool}
+    → let x = stretched u n in (m ≡ below f x) × (p ≡ location f x) × (h ≡ high f x) × (b ≡ beyond f x)
+    → (signed f s (chosen (wayOf a s) m p), flagsBy f (wayOf a s) m p h b) ≡ outcome f a s (scaled s u n)
+round-is f g a s u n (i, j, k, l) =
+    let x = stretched u n in
+    let w = wayOf a s in
+    (λ t. (signed f s (chosen w (i t) (j t)), flagsBy f w (i t) (j t) (k t) (l t)))
+    ∙ sym (λ t. (answer-chosen f g a s u n t, (raised-scaled f a s u n ∙ flags-by f g x (stretched-sound u n) w) t))

@@ -1,6 +1,6 @@
 -- Two words, the upper not 0, without the bits that leave one word with its top bit set. Assumes nothing.
-use Prim.Native.Nat.{ℕ, _+_, _-_, _*_, _/_, _%_, _^_, _≤_, _<_}
-use mathlib.Core.Path.{_≡_, sym, ap, _∙_}
+use Prim.Native.Nat.{ℕ, zero, suc, _+_, _-_, _*_, _/_, _%_, _^_, _≤_, _<_}
+use mathlib.Core.Path.{_≡_, refl, sym, ap, ap₂, _∙_}
 use mathlib.Core.Bool.{Bool}
 use native.Mathlib.Nat.{div-lt-iff-lt-mul, mod-eq-of-lt}
 use native.Mathlib.Omega.{arith}
@@ -10,17 +10,18 @@ use lib.Dec.{ltb}
 use lib.IntN.{ℤ, pos, _+ℤ_}
 use lib.Pow.{pow-pos, pow-mono}
 use lib.Signed.{mag}
-use Rattle.algebra.proofs.Integers.{addZ, magZ, magZ-fact}
+use Rattle.algebra.proofs.Integers.{addZ, eqZ, magZ, magZ-fact}
 use Rattle.algebra.proofs.Leading.{Fills, leading-fills}
 use Rattle.algebra.proofs.Powers.{pow-diff}
 use Rattle.algebra.proofs.Products.{order, times, times-le, mul-le-cancel, mul-lt-cancel}
 use Rattle.algebra.proofs.Quotients.{div-mod, div-is}
-use Rattle.ieee.specs.Round.{Attribute, answer}
+use Rattle.ieee.specs.Round.{Attribute}
 use Rattle.ieee.specs.Scalbn.{scaled}
 use Rattle.fmt_fields.specs.Width.{format, Fits}
 use Rattle.word_wide.proofs.Pairs.{same-test}
+use Rattle.round_step.specs.Outcome.{outcome}
 use Rattle.round_wide.specs.Stuck.{stuck}
-use Rattle.round_wide.proofs.Stuck.{stuck-exact, stuck-lost, stuck-answer}
+use Rattle.round_wide.proofs.Stuck.{stuck-exact, stuck-lost, stuck-none, stuck-outcome}
 use Rattle.round_wide.proofs.Told.{told, stuck-told}
 
 -- ---- in base B, which is n * m: shifted up by n, multiples of the base are multiples of m
@@ -77,15 +78,41 @@ module _ (w h l z : ℕ) (fills : Fills w h z) where
       let e = kept-is (2 ^ w) (2 ^ z) (2 ^ (w - z)) h l base (pow-pos z) (pow-pos (w - z)) in
       omega (arith, e, stuck-least (h * 2 ^ w + l) (w - z), fills .least)
 
--- so it rounds as the two words do
-pub folded-answer : {p e : ℕ} → Fits p e → (g : Attribute) (t : Bool) (h l : ℕ) (n : ℤ) → 0 < h → h < 2 ^ 64
+-- one word: nothing is shifted out
+no-bits : 64 - leadingZeros 64 0 ≡ 0
+unfolding leadingZeros
+no-bits = refl
+
+pub one-word : (h l : ℕ) → h ≡ 0 → (64 - leadingZeros 64 h ≡ 0) × (stuck (h * 2 ^ 64 + l) (64 - leadingZeros 64 h) ≡ l)
+one-word h l e =
+    let k : 64 - leadingZeros 64 h ≡ 0 = ap (λ n. 64 - leadingZeros 64 n) e ∙ no-bits in
+    let v : h * 2 ^ 64 + l ≡ l = omega arith in
+    (k, ap₂ stuck v k ∙ stuck-none l)
+
+plus-none : (n : ℤ) → n +ℤ pos 0 ≡ n
+plus-none n = eqZ (n +ℤ pos 0) n (omega (arith, addZ n (pos 0)))
+
+-- so it gives what the two words give; one word stays as it is
+pub folded-outcome : {p e : ℕ} → Fits p e → (g : Attribute) (t : Bool) (h l : ℕ) (n : ℤ) → h < 2 ^ 64
     → let k = 64 - leadingZeros 64 h in
-    answer (format p e) g t (scaled t (h * 2 ^ 64 + l) n) ≡ answer (format p e) g t (scaled t (stuck (h * 2 ^ 64 + l) k) (n +ℤ pos k))
-folded-answer {p} {e} f g t h l n a b =
-    let k : ℕ = 64 - leadingZeros 64 h in
-    let full = folded-full 64 h l (leadingZeros 64 h) (leading-fills 64 h a b) in
+    outcome (format p e) g t (scaled t (h * 2 ^ 64 + l) n) ≡ outcome (format p e) g t (scaled t (stuck (h * 2 ^ 64 + l) k) (n +ℤ pos k))
+folded-outcome {p} {e} f g t zero l n b =
+    let (k, s) = one-word zero l refl in
+    let whole : 0 * 2 ^ 64 + l ≡ l = omega arith in
+    let stays : n +ℤ pos (64 - leadingZeros 64 0) ≡ n = ap (λ j. n +ℤ pos j) k ∙ plus-none n in
+    λ i. outcome (format p e) g t (scaled t ((whole ∙ sym s) i) (sym stays i))
+folded-outcome {p} {e} f g t (suc h) l n b =
+    let k : ℕ = 64 - leadingZeros 64 (suc h) in
+    let full = folded-full 64 (suc h) l (leadingZeros 64 (suc h)) (leading-fills 64 (suc h) (omega arith) b) in
     let bits = pow-mono {i = 2 + p} {j = 63} (omega (arith, f .word, f .fair .expo-two)) in
-    stuck-answer (format p e) g t (h * 2 ^ 64 + l) k n (omega arith) (omega arith)
+    stuck-outcome (format p e) (f .fair) g t (suc h * 2 ^ 64 + l) k n (omega arith) (omega arith)
+
+-- none is left exactly where there was none
+pub folded-none : (h l : ℕ) → h < 2 ^ 64 → stuck (h * 2 ^ 64 + l) (64 - leadingZeros 64 h) ≡ 0 → h * 2 ^ 64 + l ≡ 0
+folded-none zero l b e = let s = one-word zero l refl .1 in omega (arith, s, e)
+folded-none (suc h) l b e =
+    let full = folded-full 64 (suc h) l (leadingZeros 64 (suc h)) (leading-fills 64 (suc h) (omega arith) b) in
+    absurd (omega (arith, full, e))
 
 -- and its exponent stays within reach
 pub raised-small : (n : ℤ) (k : ℕ) → mag n < 2 ^ 20 - 64 → k ≤ 64 → mag (n +ℤ pos k) ≤ 2 ^ 20

@@ -11,12 +11,13 @@ use lib.IntN.{ℤ, pos, negsuc, _+ℤ_}
 use Rattle.algebra.proofs.Products.{order, times, times-le}
 use Rattle.algebra.proofs.Integers.{addZ}
 use Rattle.algebra.proofs.Quotients.{div-mod, div-is}
-use Rattle.ieee.specs.Format.{Format}
-use Rattle.ieee.specs.Round.{Attribute, answer}
+use Rattle.ieee.specs.Format.{Format, Fair}
+use Rattle.ieee.specs.Round.{Attribute}
 use Rattle.ieee.specs.Scalbn.{scaled}
 use Rattle.round_step.specs.Mark.{Marks}
+use Rattle.round_step.specs.Outcome.{outcome}
 use Rattle.round_step.proofs.Marks.{marks-location, marks-times}
-use Rattle.round_step.proofs.MarkedAnswers.{sticky-answer}
+use Rattle.round_step.proofs.Outcomes.{sticky-outcome}
 use Rattle.round_wide.specs.Stuck.{stuck}
 
 -- ---- by whether anything is lost
@@ -71,14 +72,14 @@ stuck-marks v k =
     let (e, l) = div-mod v (2 ^ k) (pow-pos k) in
     marks-location v (2 ^ k) (v / 2 ^ k) (v % 2 ^ k) (stuck v k) (sym e) l (stuck-exact v k) (stuck-lost v k)
 
--- a number that keeps two bits more than the format rounds as before
-pub stuck-answer : (f : Format) (g : Attribute) (t : Bool) (v k : ℕ) (e : ℤ) → 0 < v → 2 ^ (2 + f .frac) ≤ stuck v k
-    → answer f g t (scaled t v e) ≡ answer f g t (scaled t (stuck v k) (e +ℤ pos k))
-stuck-answer f g t v k (pos n) p h =
+-- a number that keeps two bits more than the format gives what it gave before
+pub stuck-outcome : (f : Format) → Fair f → (g : Attribute) (t : Bool) (v k : ℕ) (e : ℤ) → 0 < v → 2 ^ (2 + f .frac) ≤ stuck v k
+    → outcome f g t (scaled t v e) ≡ outcome f g t (scaled t (stuck v k) (e +ℤ pos k))
+stuck-outcome f i g t v k (pos n) p h =
     let m : Marks (v * 2 ^ n) (2 ^ (k + n)) (stuck v k) = rw pow-add (marks-times (stuck-marks v k) (2 ^ n) (pow-pos n)) in
-    sticky-answer f g t t (v * 2 ^ n) (stuck v k) (k + n) 0 (pos n +ℤ pos k) (omega (arith, times-le (2 ^ n) p, pow-pos n)) (omega (arith, addZ (pos n) (pos k))) m (λ l. h)
-stuck-answer f g t v k (negsuc n) p h =
-    sticky-answer f g t t v (stuck v k) k (suc n) (negsuc n +ℤ pos k) p (omega (arith, addZ (negsuc n) (pos k))) (stuck-marks v k) (λ l. h)
+    sticky-outcome f i g t t (v * 2 ^ n) (stuck v k) (k + n) 0 (pos n +ℤ pos k) (omega (arith, times-le (2 ^ n) p, pow-pos n)) (omega (arith, addZ (pos n) (pos k))) m (λ l. h)
+stuck-outcome f i g t v k (negsuc n) p h =
+    sticky-outcome f i g t t v (stuck v k) k (suc n) (negsuc n +ℤ pos k) p (omega (arith, addZ (negsuc n) (pos k))) (stuck-marks v k) (λ l. h)
 
 -- ---- its size
 pub stuck-le : (v k : ℕ) → stuck v k ≤ v

@@ -1,3 +1,3 @@
-// The rounding of a two-word number, folded into one word with a sticky mark and rounded once.
+// Numbers of one word and of two with a sticky mark: shifted right, and folded into one word.
 pub mod fold;
 pub mod sticky;

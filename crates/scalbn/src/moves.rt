@@ -1,21 +1,18 @@
-// The cases of a scaled pattern: unchanged, field moved, bits below the smallest unit, overflow.
+// The cases of a scaled pattern that need no rounding, and the bits below the smallest unit.
 ghost use mathlib.Core.Path.{_≡_};
-ghost use mathlib.Core.Bool.{cond};
+ghost use mathlib.Core.Bool.{false, cond};
 ghost use Prim.Native.Nat.{_+_, _-_, _*_, _/_, _%_, _≤_, _<_, _^_};
 ghost use lib.Dec.{eqb};
-ghost use Rattle.ieee.specs.Format.{inf, canonical};
-ghost use Rattle.ieee.specs.Pattern.{Pattern, minus, field, fraction, signed};
-ghost use Rattle.ieee.specs.Round.{even};
-ghost use Rattle.round_laws.specs.Location.{part, chosen};
+ghost use Rattle.ieee.specs.Format.{canonical};
+ghost use Rattle.ieee.specs.Pattern.{Pattern, field, fraction};
+ghost use Rattle.round_laws.specs.Location.{part, highPart};
 ghost use Rattle.fmt_fields.specs.Width.{format, Fits};
 ghost use Rattle.scalbn_laws.specs.Normal.{fullOf};
 use fmt_fields::exponent_field;
 use fmt_fields::fraction_field;
-use fmt_fields::is_negative;
-use fmt_fields::pattern::infinity;
 use fmt_fields::pattern::nan;
+use round_locate::locate::Located;
 use round_locate::shift_out::shift_out;
-use round_step::round::choose_and_sign;
 use word_bits::pow;
 
 // An infinity unchanged; for a NaN the canonical one.
@@ -38,21 +35,17 @@ pub fn with_field(frac: u32, expo: u32, x: u64, to: u64) -> u64
     x - exponent_field(frac, expo, x) * unit + to * unit
 }
 
-// The rounding of a value with the sign of x past the largest number: that one is the lower neighbour, and the location is past the middle.
-pub fn overflow(frac: u32, expo: u32, x: u64) -> u64
-    requires { ⌜ Fits frac expo ⌝ }
-    ensures { λ r. ⌜ r ≡ signed (format frac expo) (minus (format frac expo) x) (chosen even (inf (format frac expo) - 1) 3) ⌝ }
-{
-    let sign = is_negative(frac, expo, x);
-    choose_and_sign(frac, expo, sign, infinity(frac, expo) - 1, 3)
-}
-
-// Rounds a normal x after shifting its significand right by k bits.
-pub fn round_below_unit(frac: u32, expo: u32, x: u64, k: u32) -> u64
+// Locates a normal x after its significand was shifted right by k bits.
+pub fn locate_below_unit(frac: u32, expo: u32, x: u64, k: u32) -> Located
     requires { ⌜ Fits frac expo × (1 ≤ k) × (k ≤ 64) ⌝ }
-    ensures { λ r. ⌜ r ≡ signed (format frac expo) (minus (format frac expo) x)
-        (chosen even (fullOf (format frac expo) x / 2 ^ k) (part (fullOf (format frac expo) x % 2 ^ k) (2 ^ k))) ⌝ }
+    ensures { λ r. ⌜ (r .below ≡ fullOf (format frac expo) x / 2 ^ k) × (r .location ≡ part (fullOf (format frac expo) x % 2 ^ k) (2 ^ k))
+        × (r .high ≡ highPart (fullOf (format frac expo) x % 2 ^ k) (2 ^ k)) × (r .beyond ≡ false) ⌝ }
 {
     let c = shift_out(pow(frac) + fraction_field(frac, expo, x), k);
-    choose_and_sign(frac, expo, is_negative(frac, expo, x), c.kept, c.location)
+    Located {
+        below: c.kept,
+        location: c.location,
+        high: c.high,
+        beyond: false,
+    }
 }

@@ -15,25 +15,31 @@ use Rattle.algebra.proofs.Quotients.{div-mod}
 use Rattle.algebra.proofs.Integers.{up, dn, addZ, eqZ, eqZ-fact}
 use Rattle.ieee.specs.Format.{Format, Fair, inf, units, canonical}
 use Rattle.ieee.specs.Pattern.{Pattern, minus, magnitude, field, fraction, signed}
-use Rattle.ieee.specs.Exact.{ratio}
-use Rattle.ieee.specs.Round.{Attribute, ties-to-even, even, answer}
-use Rattle.ieee.specs.Scalbn.{scaled, reach, clamp, scalbnBy, scalbnIn, scalbnOf}
+use Rattle.ieee.specs.Exact.{ratio, signOf, absolute}
+use Rattle.ieee.specs.Round.{Attribute, ties-to-even, wayOf}
+use Rattle.ieee.specs.Flags.{none, nanFlags, signals, raised}
+use Rattle.ieee.specs.Scalbn.{scaled, reach, clamp, scalbnBy, scalbnIn, scalbnOf, scalbnFlagsBy, scalbnFlagsIn, scalbnFlags}
 use Rattle.ieee.proofs.Units.{units-at, units-lt}
 use Rattle.ieee.proofs.Patterns.{signed-is, infinity-top, canonical-pattern}
 use Rattle.ieee.proofs.Fields.{magnitude-fields, fraction-small, field-small, units-of-fields, field-finite, kind-by-field, infinite-by-field, nan-by-field}
 use Rattle.ieee.proofs.Decide.{split, eqb-reads}
 use Rattle.ieee.proofs.Exacts.{sign-own, answer-held}
 use Rattle.ieee.proofs.Attributes.{answer-pattern}
+use Rattle.ieee.proofs.Signs.{abs-signed}
+use Rattle.ieee.proofs.Raised.{Same, same-rounded, exactly-same, raised-rule}
+use Rattle.ieee.proofs.Signals.{infinite-silent}
 use Rattle.ieee.proofs.Scalbns.{clamp-alike}
+use Rattle.ieee.proofs.ScalbnFlags.{clamp-flags}
 use Rattle.fmt_fields.specs.Width.{format, Fits}
-use Rattle.round_step.proofs.Scaled.{scaled-alike, scaled-moves, answer-chosen}
-use Rattle.round_laws.specs.Location.{part, stretched, chosen}
+use Rattle.round_step.specs.Outcome.{outcome}
+use Rattle.round_step.proofs.Outcomes.{scaled-outcome, moved-outcome}
+use Rattle.round_laws.specs.Location.{part, highPart, stretched}
 use Rattle.round_laws.proofs.Locations.{Lies, locate-over, locate-subnormal}
 use Rattle.round_laws.proofs.Parts.{all-gone}
 use Rattle.fmt_fields.proofs.Widths.{fields-small}
 use Rattle.fmt_fields.proofs.Decoded.{fields-normal, units-subnormal, units-normal}
 use Rattle.fmt_exponents.specs.Field.{above, depthOf}
-use Rattle.scalbn_laws.specs.Normal.{fullOf, movedTo}
+use Rattle.scalbn_laws.specs.Normal.{fullOf, fullExp, movedTo, scalbnGives}
 use Rattle.fmt_fields.specs.Normal.{normal}
 use Rattle.fmt_fields.proofs.Normals.{normal-between}
 use Rattle.fmt_exponents.proofs.Exponents.{clamp-mag}
@@ -53,26 +59,52 @@ module _ (f : Format) (x : ℕ) (n : ℤ) where
       (λ e. rw (eq-eqb (fraction f x) 0 e) (sym (scalbn-infinite h e)))
       (λ m. rw (ne-eqb (fraction f x) 0 m) (sym (scalbn-nan h (omega arith))))
 
-  pub scalbn-finite : field f x < 2 ^ f .expo - 1 →
-      scalbnOf f x n ≡ answer f ties-to-even (minus f x) (scaled (minus f x) (units f (magnitude f x)) (clamp (reach f) n))
-  unfolding scalbnOf scalbnIn scalbnBy
-  scalbn-finite h = ap (scalbnBy f ties-to-even x n) (kind-by-field f x h)
+  -- invalid where a NaN signals
+  flags-infinite : field f x ≡ 2 ^ f .expo - 1 → fraction f x ≡ 0 → scalbnFlags f x n ≡ nanFlags (signals f x)
+  unfolding scalbnFlags scalbnFlagsIn scalbnFlagsBy
+  flags-infinite h e = let k = infinite-by-field f x h e in ap (scalbnFlagsBy f ties-to-even x n) k ∙ ap nanFlags (sym (infinite-silent f x k))
 
-pub scalbn-unclamped : (f : Format) → Fair f → (x : ℕ) (n : ℤ) → field f x < 2 ^ f .expo - 1 → scalbnOf f x n ≡ answer f ties-to-even (minus f x) (scaled (minus f x) (units f (magnitude f x)) n)
-scalbn-unclamped f g x n h = scalbn-finite f x n h ∙ clamp-alike f g ties-to-even (minus f x) (units f (magnitude f x)) n (units-lt f (field-finite f x h))
+  flags-nan : field f x ≡ 2 ^ f .expo - 1 → 0 < fraction f x → scalbnFlags f x n ≡ nanFlags (signals f x)
+  unfolding scalbnFlags scalbnFlagsIn scalbnFlagsBy
+  flags-nan h l = ap (scalbnFlagsBy f ties-to-even x n) (nan-by-field f x h l)
 
--- a value that the format holds is its own answer
-scaled-held : (f : Format) (a : Attribute) (s : Bool) (u m : ℕ) (n : ℤ) → m < inf f → u * 2 ^ up n ≡ units f m * 2 ^ dn n → answer f a s (scaled s u n) ≡ signed f s m
-scaled-held f a s u m n l e =
+  pub special-flags : field f x ≡ 2 ^ f .expo - 1 → nanFlags (signals f x) ≡ scalbnFlags f x n
+  special-flags h = split (eqb-reads (fraction f x) 0) (λ e. sym (flags-infinite h e)) (λ m. sym (flags-nan h (omega arith)))
+
+  pub finite-gives : field f x < 2 ^ f .expo - 1 →
+      scalbnGives f x n ≡ outcome f ties-to-even (minus f x) (scaled (minus f x) (units f (magnitude f x)) (clamp (reach f) n))
+  unfolding scalbnOf scalbnIn scalbnBy scalbnFlags scalbnFlagsIn scalbnFlagsBy
+  finite-gives h = let k = kind-by-field f x h in λ i. (scalbnBy f ties-to-even x n (k i), scalbnFlagsBy f ties-to-even x n (k i))
+
+unclamped-gives : (f : Format) → Fair f → (x : ℕ) (n : ℤ) → field f x < 2 ^ f .expo - 1
+    → scalbnGives f x n ≡ outcome f ties-to-even (minus f x) (scaled (minus f x) (units f (magnitude f x)) n)
+unclamped-gives f g x n h =
+    let l = units-lt f (field-finite f x h) in
+    let values = clamp-alike f g ties-to-even (minus f x) (units f (magnitude f x)) n l in
+    let flags = clamp-flags f g ties-to-even (minus f x) (units f (magnitude f x)) n l in
+    finite-gives f x n h ∙ (λ i. (values i, flags i))
+
+-- ---- a value that the format holds is its own answer, and raises nothing
+held-silent : (f : Format) → Fair f → (a : Attribute) (s : Bool) (m : ℕ) → m < inf f → raised f a s (scaled s (units f m) (pos 0)) ≡ none
+held-silent f g a s m l =
+    let v = scaled s (units f m) (pos 0) in
+    let x = absolute v in
+    let size = abs-signed s (units f m * 2 ^ 0) in
+    let same : Same f x m = record { finite = l; low = omega (arith, size); high = omega (arith, size) } in
+    raised-rule f g a s v .exact-none (exactly-same f g a s v .1 (subst (Same f x) (sym (same-rounded f g (wayOf a (signOf s v)) x (pow-pos 0) m same)) same))
+
+held-outcome : (f : Format) → Fair f → (a : Attribute) (s : Bool) (u m : ℕ) (n : ℤ) → m < inf f → u * 2 ^ up n ≡ units f m * 2 ^ dn n → outcome f a s (scaled s u n) ≡ (signed f s m, none)
+held-outcome f g a s u m n l e =
     let i : up n + 0 ≡ up n = omega arith in
     let j : 0 + dn n ≡ dn n = omega arith in
-    scaled-alike f a s u (units f m) n (pos 0) (ap (λ k. u * 2 ^ k) i ∙ e ∙ ap (λ k. units f m * 2 ^ k) (sym j))
-    ∙ answer-held f a s s m 0 l (sign-own s (units f m * 2 ^ 0) 0)
+    let value = answer-held f a s s m 0 l (sign-own s (units f m * 2 ^ 0) 0) in
+    let flags = held-silent f g a s m l in
+    scaled-outcome f g a s u (units f m) n (pos 0) (ap (λ k. u * 2 ^ k) i ∙ e ∙ ap (λ k. units f m * 2 ^ k) (sym j)) ∙ (λ k. (value k, flags k))
 
-module _ (f : Format) (x : ℕ) (n : ℤ) where
+module _ (f : Format) (g : Fair f) (x : ℕ) (n : ℤ) where
   -- the field moves, and the fraction is unchanged
-  pub moved-held : (t : ℕ) → 0 < field f x → 0 < t → t < 2 ^ f .expo - 1 → pos t ≡ n +ℤ pos (field f x) → Pattern f x
-      → answer f ties-to-even (minus f x) (scaled (minus f x) (units f (magnitude f x)) n) ≡ x - field f x * 2 ^ f .frac + t * 2 ^ f .frac
+  moved-held : (t : ℕ) → 0 < field f x → 0 < t → t < 2 ^ f .expo - 1 → pos t ≡ n +ℤ pos (field f x) → Pattern f x
+      → outcome f ties-to-even (minus f x) (scaled (minus f x) (units f (magnitude f x)) n) ≡ (x - field f x * 2 ^ f .frac + t * 2 ^ f .frac, none)
   moved-held t p q h e r =
       let F = field f x in
       let r′ = fraction f x in
@@ -84,81 +116,85 @@ module _ (f : Format) (x : ℕ) (n : ℤ) where
       let (a, b) = eqZ-fact e in
       let level : 2 ^ (F - 1) * 2 ^ up n ≡ 2 ^ (t - 1) * 2 ^ dn n =
       sym (pow-add 2 (F - 1) (up n)) ∙ ap (λ k. 2 ^ k) (omega (arith, a, b, addZ n (pos F))) ∙ pow-add 2 (t - 1) (dn n) in
-      scaled-held f ties-to-even (minus f x) (units f (magnitude f x)) m n (digits-lt h small)
+      let whole : signed f (minus f x) m ≡ x - F * U + t * U = omega (arith, signed-is f x r, magnitude-fields f x) in
+      held-outcome f g ties-to-even (minus f x) (units f (magnitude f x)) m n (digits-lt h small)
       (omega (arith, times (2 ^ up n) ux, times (2 ^ dn n) um, times (U + r′) level))
-      ∙ omega (arith, signed-is f x r, magnitude-fields f x)
+      ∙ ap (λ k. (k, none)) whole
 
--- ---- subnormal numbers and zeros, through the rounding step
-pub scalbn-subnormal : (f : Format) → Fair f → (x : ℕ) (n : ℤ) → field f x ≡ 0 →
-    answer f ties-to-even (minus f x) (scaled (minus f x) (fraction f x) (clamp (reach f) n)) ≡ scalbnOf f x n
-scalbn-subnormal f g x n h =
+-- ---- subnormal numbers and zeros
+pub subnormal-gives : (f : Format) → Fair f → (x : ℕ) (n : ℤ) → field f x ≡ 0 →
+    outcome f ties-to-even (minus f x) (scaled (minus f x) (fraction f x) (clamp (reach f) n)) ≡ scalbnGives f x n
+subnormal-gives f g x n h =
     let few = pow-mono {i = 2} {j = f .expo} (g .expo-two) in
-    sym (scalbn-finite f x n (omega arith) ∙ ap (λ u. answer f ties-to-even (minus f x) (scaled (minus f x) u (clamp (reach f) n))) (units-subnormal f x h))
+    sym (finite-gives f x n (omega arith) ∙ ap (λ u. outcome f ties-to-even (minus f x) (scaled (minus f x) u (clamp (reach f) n))) (units-subnormal f x h))
 
 -- ---- normal numbers: the field moves, or the value overflows, or it drops below the least normal number
 module _ (f : Format) (g : Fair f) (x : ℕ) (n : ℤ) (h : normal f x ≡ true) where
   i : (0 < field f x) × (field f x < 2 ^ f .expo - 1)
   i = normal-between f x h
 
-  pub scalbn-moved : (t : ℕ) → Pattern f x → movedTo f x n ≡ pos t → 0 < t → t < 2 ^ f .expo - 1 → x - field f x * 2 ^ f .frac + t * 2 ^ f .frac ≡ scalbnOf f x n
-  scalbn-moved t p e q h = sym (scalbn-unclamped f g x n (i .1) ∙ moved-held f x n t (i .0) q h (sym e) p)
+  pub moved-gives : (t : ℕ) → Pattern f x → movedTo f x n ≡ pos t → 0 < t → t < 2 ^ f .expo - 1 → (x - field f x * 2 ^ f .frac + t * 2 ^ f .frac, none) ≡ scalbnGives f x n
+  moved-gives t p e q h = sym (unclamped-gives f g x n (i .1) ∙ moved-held f g x n t (i .0) q h (sym e) p)
 
-  -- the answer by the location of the significand
-  location-answer : (m p : ℕ) → Lies f (stretched (fullOf f x) (n +ℤ pos (field f x - 1))) m p → scalbnOf f x n ≡ signed f (minus f x) (chosen even m p)
-  location-answer m p (b, q) =
+  -- by the significand
+  pub normal-gives : outcome f ties-to-even (minus f x) (scaled (minus f x) (fullOf f x) (fullExp f x n)) ≡ scalbnGives f x n
+  normal-gives =
       let s = minus f x in
-      scalbn-unclamped f g x n (i .1)
-      ∙ ap (λ u. answer f ties-to-even s (scaled s u n)) (units-normal f x (i .0))
-      ∙ scaled-moves f ties-to-even s (fullOf f x) (field f x - 1) n
-      ∙ answer-chosen f g ties-to-even s (fullOf f x) (n +ℤ pos (field f x - 1))
-      ∙ (λ k. signed f s (chosen even (b k) (q k)))
+      sym (unclamped-gives f g x n (i .1)
+      ∙ ap (λ u. outcome f ties-to-even s (scaled s u n)) (units-normal f x (i .0))
+      ∙ moved-outcome f g ties-to-even s (fullOf f x) (field f x - 1) n)
 
   -- the exponent of the significand
-  less-one : (z : ℤ) → up z + dn (movedTo f x n) + 1 ≡ dn z + up (movedTo f x n) → n +ℤ pos (field f x - 1) ≡ z
+  less-one : (z : ℤ) → up z + dn (movedTo f x n) + 1 ≡ dn z + up (movedTo f x n) → fullExp f x n ≡ z
   less-one z e =
       eqZ (n +ℤ pos (field f x - 1)) z (omega (arith, addZ n (pos (field f x)), addZ n (pos (field f x - 1)), i .0))
 
-  pub scalbn-over : (t : ℕ) → movedTo f x n ≡ pos t → 2 ^ f .expo - 1 ≤ t → signed f (minus f x) (chosen even (inf f - 1) 3) ≡ scalbnOf f x n
-  scalbn-over t e k =
+  pub over-lies : (t : ℕ) → movedTo f x n ≡ pos t → 2 ^ f .expo - 1 ≤ t → Lies f (stretched (fullOf f x) (fullExp f x n)) (inf f - 1) 3 true true
+  over-lies t e k =
       let few = pow-mono {i = 2} {j = f .expo} (g .expo-two) in
       let (a, b) = eqZ-fact e in
       let z = less-one (pos (t - 1)) (omega arith) in
       let none : f .frac ≡ 0 + f .frac = omega arith in
       let low : 2 ^ (0 + f .frac) ≤ fullOf f x = subst (λ j. 2 ^ j ≤ fullOf f x) none (omega arith) in
       let c = locate-over f g 0 (fullOf f x) (t - 1) 0 (t - 1) low (omega arith) (omega arith) in
-      sym (location-answer (inf f - 1) 3 (subst (λ y. Lies f (stretched (fullOf f x) y) (inf f - 1) 3) (sym z) c))
+      subst (λ y. Lies f (stretched (fullOf f x) y) (inf f - 1) 3 true true) (sym z) c
 
   -- k bits drop below the smallest unit
-  low-lies : (k : ℕ) → Lies f (ratio (fullOf f x) (2 ^ k)) (fullOf f x / 2 ^ k) (part (fullOf f x % 2 ^ k) (2 ^ k))
+  abbrev Below : ℕ → ℕ → Type 0
+  Below k d = Lies f (ratio (fullOf f x) (2 ^ k)) (fullOf f x / 2 ^ d) (part (fullOf f x % 2 ^ d) (2 ^ d)) (highPart (fullOf f x % 2 ^ d) (2 ^ d)) false
+
+  low-lies : (k : ℕ) → Below k k
   low-lies k =
       let one : fullOf f x * 2 ^ 0 ≡ fullOf f x = omega arith in
       let room = pow-mono {i = suc (f .frac)} {j = k + suc (f .frac)} (omega arith) in
-      subst (λ u. Lies f (ratio u (2 ^ k)) (fullOf f x / 2 ^ k) (part (fullOf f x % 2 ^ k) (2 ^ k))) one
+      subst (λ u. Lies f (ratio u (2 ^ k)) (fullOf f x / 2 ^ k) (part (fullOf f x % 2 ^ k) (2 ^ k)) (highPart (fullOf f x % 2 ^ k) (2 ^ k)) false) one
       (locate-subnormal f g (fullOf f x) 0 k k (omega (arith, fraction-small f x, two-pow-succ (f .frac))) (omega arith))
 
-  low-answer : (j d : ℕ) → n +ℤ pos (field f x - 1) ≡ negsuc j → d ≡ min (suc j) 64 → fullOf f x < 2 ^ 63 →
-      signed f (minus f x) (chosen even (fullOf f x / 2 ^ d) (part (fullOf f x % 2 ^ d) (2 ^ d))) ≡ scalbnOf f x n
-  low-answer j d z e h =
+  -- 64 of them stand for any more
+  few-lie : (j d : ℕ) → d ≡ min (suc j) 64 → fullOf f x < 2 ^ 63 → Below (suc j) d
+  few-lie j d e h =
       order (suc j) 64
-      (λ l. let q : d ≡ suc j = omega arith in rw q (sym (here (fullOf f x / 2 ^ suc j) (part (fullOf f x % 2 ^ suc j) (2 ^ suc j)) (low-lies (suc j)))))
+      (λ l. let q : d ≡ suc j = omega arith in rw q (low-lies (suc j)))
       (λ l.
       let q : d ≡ 64 = omega arith in
       let some : 0 < fullOf f x = omega (arith, pow-pos (f .frac)) in
-      let (a, b) = all-gone (fullOf f x) 64 some (omega arith) in
-      let (u, v) = all-gone (fullOf f x) (suc j) some (omega (arith, pow-mono {i = 64} {j = suc j} (omega arith))) in
-      let (m, p) = low-lies (suc j) in
-      rw q (ap₂ (λ k r. signed f (minus f x) (chosen even k r)) a b ∙ sym (here 0 1 (m ∙ u, p ∙ v))))
-    where
-      here : (m p : ℕ) → Lies f (ratio (fullOf f x) (2 ^ suc j)) m p → scalbnOf f x n ≡ signed f (minus f x) (chosen even m p)
-      here m p c = location-answer m p (subst (λ y. Lies f (stretched (fullOf f x) y) m p) (sym z) c)
+      let (a, b, c) = all-gone (fullOf f x) 64 some (omega arith) in
+      let (u, v, w) = all-gone (fullOf f x) (suc j) some (omega (arith, pow-mono {i = 64} {j = suc j} (omega arith))) in
+      let (m, p, r, s) = low-lies (suc j) in
+      rw q (m ∙ u ∙ sym a, p ∙ v ∙ sym b, r ∙ w ∙ sym c, s))
 
-  pub scalbn-low : (d : ℕ) → above (movedTo f x n) ≡ 0 → d ≡ depthOf (movedTo f x n) → fullOf f x < 2 ^ 63 →
-      signed f (minus f x) (chosen even (fullOf f x / 2 ^ d) (part (fullOf f x % 2 ^ d) (2 ^ d))) ≡ scalbnOf f x n
-  scalbn-low d a e h = go (movedTo f x n) refl a e
+  pub below-lies : (d : ℕ) → above (movedTo f x n) ≡ 0 → d ≡ depthOf (movedTo f x n) → fullOf f x < 2 ^ 63 →
+      Lies f (stretched (fullOf f x) (fullExp f x n)) (fullOf f x / 2 ^ d) (part (fullOf f x % 2 ^ d) (2 ^ d)) (highPart (fullOf f x % 2 ^ d) (2 ^ d)) false
+  below-lies d a e h = go (movedTo f x n) refl a e
     where
-      go : (z : ℤ) → movedTo f x n ≡ z → above z ≡ 0 → d ≡ depthOf z → signed f (minus f x) (chosen even (fullOf f x / 2 ^ d) (part (fullOf f x % 2 ^ d) (2 ^ d))) ≡ scalbnOf f x n
-      go (pos t) w b q = let (u, v) = eqZ-fact w in low-answer 0 d (less-one (negsuc 0) (omega arith)) (omega arith) h
-      go (negsuc t) w b q = let (u, v) = eqZ-fact w in low-answer (suc t) d (less-one (negsuc (suc t)) (omega arith)) (omega arith) h
+      there : (j : ℕ) → fullExp f x n ≡ negsuc j → d ≡ min (suc j) 64
+          → Lies f (stretched (fullOf f x) (fullExp f x n)) (fullOf f x / 2 ^ d) (part (fullOf f x % 2 ^ d) (2 ^ d)) (highPart (fullOf f x % 2 ^ d) (2 ^ d)) false
+      there j z q = subst (λ y. Lies f (stretched (fullOf f x) y) (fullOf f x / 2 ^ d) (part (fullOf f x % 2 ^ d) (2 ^ d)) (highPart (fullOf f x % 2 ^ d) (2 ^ d)) false) (sym z) (few-lie j d q h)
+
+      go : (z : ℤ) → movedTo f x n ≡ z → above z ≡ 0 → d ≡ depthOf z
+          → Lies f (stretched (fullOf f x) (fullExp f x n)) (fullOf f x / 2 ^ d) (part (fullOf f x % 2 ^ d) (2 ^ d)) (highPart (fullOf f x % 2 ^ d) (2 ^ d)) false
+      go (pos t) w b q = let (u, v) = eqZ-fact w in there 0 (less-one (negsuc 0) (omega arith)) (omega arith)
+      go (negsuc t) w b q = let (u, v) = eqZ-fact w in there (suc t) (less-one (negsuc (suc t)) (omega arith)) (omega arith)
 
 -- ---- what fits in a word
 module _ {p e : ℕ} (w : Fits p e) where
@@ -201,7 +237,7 @@ module _ {p e : ℕ} (w : Fits p e) where
 pub scalbn-pattern : (f : Format) → Fair f → (x : ℕ) (n : ℤ) → Pattern f x → Pattern f (scalbnOf f x n)
 scalbn-pattern f g x n h =
     order (suc (field f x)) (2 ^ f .expo - 1)
-    (λ l. rw (scalbn-finite f x n l) (answer-pattern f g ties-to-even (minus f x) (scaled (minus f x) (units f (magnitude f x)) (clamp (reach f) n))))
+    (λ l. rw (ap (λ p. p .0) (finite-gives f x n l)) (answer-pattern f g ties-to-even (minus f x) (scaled (minus f x) (units f (magnitude f x)) (clamp (reach f) n))))
     (λ l. subst (Pattern f) (scalbn-special f x n (omega (arith, field-small f x))) (either (eqb (fraction f x) 0)))
   where
     either : (b : Bool) → Pattern f (cond b x (canonical f))

@@ -3,13 +3,20 @@ ghost use mathlib.Core.Path.{_≡_};
 ghost use mathlib.Core.Bool.{true};
 ghost use Rattle.ieee.specs.Format.{b64, b32};
 ghost use Rattle.ieee.specs.Pattern.{Pattern};
-ghost use Rattle.ieee.specs.Sqrt.{sqrtOf, sqrtStatus};
+ghost use Rattle.ieee.specs.Sqrt.{sqrtOf, sqrtFlags};
 ghost use Rattle.fmt_fields.specs.Width.{format, Fits};
+ghost use Rattle.fmt_fields.specs.Raised.{flagsOf};
 ghost use Rattle.sqrt.specs.Classes.{rootless, setAside};
-use fmt_fields::env::FpResult32;
-use fmt_fields::env::FpResult64;
+use fmt_fields::env::Raised;
+use fmt_fields::env::Raised32;
+use fmt_fields::env::Raised64;
+use fmt_fields::env::invalid_if;
 use fmt_fields::pattern::infinity;
+use fmt_fields::pattern::is_signalling;
+use fmt_fields::pattern::magnitude_of;
 use fmt_fields::pattern::nan;
+use sqrt_number::flags::sqrt_number32_flags;
+use sqrt_number::flags::sqrt_number64_flags;
 use sqrt_number::sqrt_by_digits;
 use sqrt_number::sqrt_normal32;
 use sqrt_number::sqrt_normal64;
@@ -64,20 +71,15 @@ pub fn sqrt_pattern(frac: u32, expo: u32, x: u64) -> u64
     sqrt_by_digits(frac, expo, x)
 }
 
-// INVALID for NaNs and negative numbers: every pattern past infinity except -0.
-fn status_of(frac: u32, expo: u32, x: u64) -> u32
-    requires { ⌜ Fits frac expo × Pattern (format frac expo) x ⌝ }
-    ensures { λ r. ⌜ r ≡ sqrtStatus (format frac expo) x ⌝ }
+// The flags where no root is computed: invalid for signalling NaNs, and for what is below zero: the patterns past -0 that are no NaNs.
+fn special_flags(frac: u32, expo: u32, x: u64) -> Raised
+    requires { ⌜ Fits frac expo × Pattern (format frac expo) x × (rootless (format frac expo) x ≡ true) ⌝ }
+    ensures { λ r. ⌜ flagsOf r ≡ sqrtFlags (format frac expo) x ⌝ }
 {
-    let top = pow(frac + expo);
-    let inf = infinity(frac, expo);
-    if x <= inf {
-        return fmt_fields::env::OK;
+    if magnitude_of(frac, expo, x) > infinity(frac, expo) {
+        return invalid_if(is_signalling(frac, expo, x));
     }
-    if x == top {
-        return fmt_fields::env::OK;
-    }
-    fmt_fields::env::INVALID
+    invalid_if(x > pow(frac + expo))
 }
 
 // The operands set aside: by the table where they have a root.
@@ -109,13 +111,16 @@ pub fn sqrt64(x: u64) -> u64
     sqrt_normal64(x)
 }
 
-pub fn sqrt64_status(x: u64) -> FpResult64
-    ensures { λ r. ⌜ (r .val ≡ sqrtOf b64 x) × (r .status ≡ sqrtStatus b64 x) ⌝ }
+pub fn sqrt64_flags(x: u64) -> Raised64
+    ensures { λ r. ⌜ (r .value ≡ sqrtOf b64 x) × (flagsOf (r .flags) ≡ sqrtFlags b64 x) ⌝ }
 {
-    FpResult64 {
-        val: sqrt64(x),
-        status: status_of(52, 11, x),
+    if has_no_root(52, 11, x) {
+        return Raised64 {
+            value: sqrt_special(52, 11, x),
+            flags: special_flags(52, 11, x),
+        };
     }
+    sqrt_number64_flags(x)
 }
 
 pub fn sqrt32(x: u32) -> u32
@@ -127,24 +132,14 @@ pub fn sqrt32(x: u32) -> u32
     sqrt_normal32(x as u64)
 }
 
-pub fn sqrt32_status(x: u32) -> FpResult32
-    ensures { λ r. ⌜ (r .val ≡ sqrtOf b32 x) × (r .status ≡ sqrtStatus b32 x) ⌝ }
+pub fn sqrt32_flags(x: u32) -> Raised32
+    ensures { λ r. ⌜ (r .value ≡ sqrtOf b32 x) × (flagsOf (r .flags) ≡ sqrtFlags b32 x) ⌝ }
 {
-    FpResult32 {
-        val: sqrt32(x),
-        status: status_of(23, 8, x as u64),
+    if has_no_root(23, 8, x as u64) {
+        return Raised32 {
+            value: sqrt_special(23, 8, x as u64) as u32,
+            flags: special_flags(23, 8, x as u64),
+        };
     }
-}
-
-// The status alone. It needs no root.
-pub fn status64(x: u64) -> u32
-    ensures { λ r. ⌜ r ≡ sqrtStatus b64 x ⌝ }
-{
-    status_of(52, 11, x)
-}
-
-pub fn status32(x: u32) -> u32
-    ensures { λ r. ⌜ r ≡ sqrtStatus b32 x ⌝ }
-{
-    status_of(23, 8, x as u64)
+    sqrt_number32_flags(x as u64)
 }

@@ -48,7 +48,7 @@ module _ {p e : ℕ} (w : Fits p e) (x : ℕ) (a : Above (format p e) x) (sig up
   pub ready : p + 2 ≤ 2 ^ (e - 1) → Ready (format p e) sig up
   ready l = record { leads = led; from = up-least (format p e) (w .fair) x (a .some) up (h .up-is) l; to = up-most (format p e) (w .fair) x (a .some) up (h .up-is) }
 
-  normal-root : p + 2 ≤ 2 ^ (e - 1) → (t : ℕ) → FloorRoot (pairs word (p + 2)) t → NormalRoot (format p e) t up
+  pub normal-root : p + 2 ≤ 2 ^ (e - 1) → (t : ℕ) → FloorRoot (pairs word (p + 2)) t → NormalRoot (format p e) t up
   normal-root l t r =
       record {
         least = root-long (format p e) (w .fair) x (a .some) up (h .up-is) t (subst (λ n. FloorRoot n t) square-is r);

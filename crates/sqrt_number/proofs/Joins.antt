@@ -1,6 +1,6 @@
 -- A root that makes a normal number: its location is one bit of the root and the mark, and to the nearest that bit alone decides. Assumes nothing.
 use Prim.Native.Nat.{ℕ, zero, suc, _+_, _-_, _*_, _/_, _%_, _^_, _≤_, _<_}
-use mathlib.Core.Path.{_≡_, refl, sym, ap, _∙_}
+use mathlib.Core.Path.{_≡_, refl, sym, ap, ap₂, _∙_}
 use mathlib.Core.Bool.{Bool, true, false}
 use native.Mathlib.Omega.{arith}
 use lib.IntN.{pos}
@@ -12,10 +12,10 @@ use Rattle.ieee.specs.Format.{Format, Fair}
 use Rattle.ieee.specs.Pattern.{signed}
 use Rattle.ieee.specs.Round.{answer, even, ties-to-even}
 use Rattle.ieee.specs.Scalbn.{scaled}
-use Rattle.round_laws.specs.Location.{chosen, part, stretched}
-use Rattle.round_laws.proofs.Locations.{Lies, locate-normal}
+use Rattle.round_laws.specs.Location.{location, below, chosen, part, stretched}
+use Rattle.round_laws.proofs.Locations.{locate-normal}
 use Rattle.round_laws.proofs.Stretched.{stretched-ratio}
-use Rattle.round_step.proofs.Rounds.{round-is}
+use Rattle.round_step.proofs.Scaled.{answer-chosen}
 use Rattle.sqrt_number.specs.Split.{halfOf, markedBy}
 
 -- a root of frac + 2 bits and a lifted exponent that make a normal number
@@ -54,11 +54,11 @@ module _ (f : Format) (g : Fair f) (t lifted : ℕ) (i : NormalRoot f t lifted) 
   length true = omega (arith, i .least, i .most, pow-add 2 2 (f .frac), pow-add 2 2 (suc (f .frac)), pow-add 2 1 (f .frac))
   length false = omega (arith, i .least, i .most, pow-add 2 2 (f .frac), pow-add 2 2 (suc (f .frac)), pow-add 2 1 (f .frac))
 
-  known-location : (b : Bool) → Lies f (stretched (markedBy t b) (halfOf lifted)) ((lifted / 2 - 2) * 2 ^ f .frac + markedBy t b / 4) (markedBy t b % 4)
+  known-location : (b : Bool) → let x = stretched (markedBy t b) (halfOf lifted) in (below f x ≡ (lifted / 2 - 2) * 2 ^ f .frac + markedBy t b / 4) × (location f x ≡ markedBy t b % 4)
   known-location b =
       let s : ℕ = markedBy t b in
       let (l, h) = length b in
-      let (m, q) = locate-normal f g 2 s (up (halfOf lifted)) (dn (halfOf lifted)) (lifted / 2 - 2) l h (omega (arith, subZ (pos (lifted / 2)) (pos 4), i .from)) (omega (arith, i .from, i .to)) in
+      let (m, q, _, _) = locate-normal f g 2 s (up (halfOf lifted)) (dn (halfOf lifted)) (lifted / 2 - 2) l h (omega (arith, subZ (pos (lifted / 2)) (pos 4), i .from)) (omega (arith, i .from, i .to)) in
       rw stretched-ratio (m, q ∙ part-four (s % 4) (omega arith))
 
   -- to the nearest: up where the last bit is 1, since the root is then not exact
@@ -82,4 +82,4 @@ module _ (f : Format) (g : Fair f) (t lifted : ℕ) (i : NormalRoot f t lifted) 
   pub nearest-is : (b : Bool) → (b ≡ true → t % 2 ≡ 0) → answer f ties-to-even false (scaled false (markedBy t b) (halfOf lifted)) ≡ (lifted / 2 - 2) * 2 ^ f .frac + (t + 1) / 2
   nearest-is b z =
       let (m, q) = known-location b in
-      sym (round-is f g false (markedBy t b) (halfOf lifted) _ _ _ (sym m) (sym q) refl) ∙ no-sign f _ ∙ lands b z
+      answer-chosen f g ties-to-even false (markedBy t b) (halfOf lifted) ∙ ap (signed f false) (ap₂ (chosen even) m q) ∙ no-sign f _ ∙ lands b z

@@ -4,3 +4,4 @@ pub mod Only
 pub mod Rootings
 pub mod Splits
 pub mod Tables
+pub mod RootFlags

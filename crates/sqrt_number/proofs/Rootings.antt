@@ -53,7 +53,7 @@ module _ (f : Format) (g : Fair f) (x : ℕ) (some : 0 < magnitude f x) (lifted 
   up-most = let (at, n) = normal-is f g x some in omega (arith, exponents at n, n .below-all, fields-twice f g, pow-pos (f .expo - 1))
 
   -- in smallest units, the number times the scale of its units is the radicand at the step of the mark
-  counted : units f (magnitude f x) * 2 ^ low f * (2 ^ 4 * 2 ^ 4) ≡ square f x lifted * (2 * 2 ^ (lifted / 2) * (2 * 2 ^ (lifted / 2)))
+  pub counted : units f (magnitude f x) * 2 ^ low f * (2 ^ 4 * 2 ^ 4) ≡ square f x lifted * (2 * 2 ^ (lifted / 2) * (2 * 2 ^ (lifted / 2)))
   counted =
       let (at, n) = normal-is f g x some in
       let h = lifted / 2 in

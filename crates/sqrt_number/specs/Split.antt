@@ -2,6 +2,7 @@
 use Prim.Native.Nat.{ℕ, _+_, _-_, _*_, _/_, _%_, _^_, _≤_, _<_}
 use mathlib.Core.Path.{_≡_}
 use mathlib.Core.Bool.{Bool, false, cond}
+use lib.Dec.{eqb}
 use lib.IntN.{ℤ, pos, _+ℤ_, _-ℤ_}
 use Rattle.ieee.specs.Format.{Format, inf}
 use Rattle.ieee.specs.Pattern.{magnitude, minus}
@@ -69,3 +70,12 @@ pub record NearestRoot (p sig up r : ℕ) : Type 0 where
   pub rem : ℕ
   pub residual : Residual (pairs (wordOf p sig up) (p + 1)) root rem
   pub is : r ≡ nearestOf p root rem up
+
+-- ---- exact or not
+-- the whole number in the pattern r of a root
+abbrev pub rootIn : ℕ → ℕ → ℕ → ℕ
+rootIn p up r = r - (up / 2 - 2) * 2 ^ p
+
+-- its square is the radicand
+abbrev pub isRoot : ℕ → ℕ → ℕ → ℕ → Bool
+isRoot p sig up r = eqb (rootIn p up r * rootIn p up r) (sig * 2 ^ (p + up % 2))

@@ -15,12 +15,15 @@ ghost use Rattle.sqrt_number.specs.Split.{lift, halfOf, markedBy, wordOf
 use fmt_decode::norm::Norm;
 use fmt_decode::norm::norm_of;
 use fmt_decode::norm::unpack_normal;
+use fmt_fields::env::Attribute;
 use round_step::round::round;
 use sqrt_digits::RootFloor;
 use sqrt_digits::floor_root;
 use sqrt_table::root::root24;
 use sqrt_table::root::root53;
 use word_bits::pow;
+
+pub mod flags;
 
 // The exponent with a constant added, so that it is not negative and is halved as a whole number.
 fn lift_exponent(frac: u32, expo: u32, n: Norm) -> u32
@@ -71,10 +74,11 @@ fn round_root(frac: u32, expo: u32, whole: RootFloor, up: u32) -> u64
     round(
         frac,
         expo,
+        Attribute::Even,
         false,
         mark_inexact(whole.root, whole.exact),
         halve_exponent(up),
-    )
+    ).bits
 }
 
 // The pattern of the number nearest to a root, where that is normal. The next number is nearer exactly where the residual exceeds the root: the middle between

@@ -83,6 +83,20 @@ pub fn of_file(name: &str) -> Vec<Claim> {
     claims_in(&text)
 }
 
+/// The claims of tests/flags.lines that the functions answer: at widths 64 and 32, without an
+/// attribute or to nearest even. A call under an attribute has its number before the answer.
+pub fn of_flags() -> Vec<Claim> {
+    let mut claims = of_file("tests/flags.lines");
+    for claim in &mut claims {
+        if let Some(operation) = claim.operation.strip_suffix(".even") {
+            claim.operation = operation.to_string();
+            claim.answer = claim.answer.strip_prefix("0 ").expect("done").to_string();
+        }
+    }
+    claims.retain(|claim| claim.operation.ends_with("64") || claim.operation.ends_with("32"));
+    claims
+}
+
 /// The claims about the longest lists, which a script writes.
 pub fn of_long_lists() -> Vec<Claim> {
     let script = repository().join("tests/long-lists");

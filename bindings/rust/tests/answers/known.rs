@@ -11,14 +11,14 @@ fn hex<T: LowerHex>(word: T) -> String {
     format!("{word:0digits$x}", digits = 2 * size_of::<T>())
 }
 
-/// The value alone must be the value that stands with the status.
-fn with_status<T: LowerHex + PartialEq>(alone: T, with: FpResult<T>) -> String {
+/// The value alone must be the value that comes with flags.
+fn with_flags<T: LowerHex + PartialEq>(alone: T, (value, flags): (T, Flags)) -> String {
     assert!(
-        alone == with.value,
-        "{alone:x} alone, {:x} with a status",
-        with.value
+        alone == value,
+        "{alone:x} alone, {value:x} with {flags}, bits {}",
+        flags.bits()
     );
-    format!("{} {}", hex(alone), with.status)
+    format!("{} {flags}", hex(value))
 }
 
 fn reduced<T: LowerHex + Default>(answer: Result<T, Refusal>) -> String {
@@ -53,21 +53,33 @@ fn listed(op: u32, xs: &[u64], mut ys: Vec<u64>) -> String {
 
 fn on_patterns(operation: &str, o: &Operands) -> String {
     match operation {
-        "sqrt64" => with_status(sqrt64(o.word64(0)), sqrt64_status(o.word64(0))),
-        "sqrt32" => with_status(sqrt32(o.word32(0)), sqrt32_status(o.word32(0))),
-        "floor64" => with_status(floor64(o.word64(0)), floor64_status(o.word64(0))),
-        "floor32" => with_status(floor32(o.word32(0)), floor32_status(o.word32(0))),
-        "trunc64" => with_status(trunc64(o.word64(0)), trunc64_status(o.word64(0))),
-        "trunc32" => with_status(trunc32(o.word32(0)), trunc32_status(o.word32(0))),
-        "scalbn64" => hex(scalbn64(o.word64(0), o.signed(1))),
-        "scalbn32" => hex(scalbn32(o.word32(0), o.signed(1))),
-        "fma64" => hex(fma64(o.word64(0), o.word64(1), o.word64(2))),
-        "fma32" => hex(fma32(o.word32(0), o.word32(1), o.word32(2))),
+        "sqrt64" => with_flags(sqrt64(o.word64(0)), sqrt64_flags(o.word64(0))),
+        "sqrt32" => with_flags(sqrt32(o.word32(0)), sqrt32_flags(o.word32(0))),
+        "floor64" => with_flags(floor64(o.word64(0)), floor64_flags(o.word64(0))),
+        "floor32" => with_flags(floor32(o.word32(0)), floor32_flags(o.word32(0))),
+        "trunc64" => with_flags(trunc64(o.word64(0)), trunc64_flags(o.word64(0))),
+        "trunc32" => with_flags(trunc32(o.word32(0)), trunc32_flags(o.word32(0))),
+        "scalbn64" => with_flags(
+            scalbn64(o.word64(0), o.signed(1)),
+            scalbn64_flags(o.word64(0), o.signed(1)),
+        ),
+        "scalbn32" => with_flags(
+            scalbn32(o.word32(0), o.signed(1)),
+            scalbn32_flags(o.word32(0), o.signed(1)),
+        ),
+        "fma64" => with_flags(
+            fma64(o.word64(0), o.word64(1), o.word64(2)),
+            fma64_flags(o.word64(0), o.word64(1), o.word64(2)),
+        ),
+        "fma32" => with_flags(
+            fma32(o.word32(0), o.word32(1), o.word32(2)),
+            fma32_flags(o.word32(0), o.word32(1), o.word32(2)),
+        ),
         "fmod64" => hex(fmod64(o.word64(0), o.word64(1))),
         "fmod32" => hex(fmod32(o.word32(0), o.word32(1))),
         "remquo64" => {
-            let answer = remquo64(o.word64(0), o.word64(1));
-            format!("{} {}", hex(answer.value), answer.quotient)
+            let (value, quotient) = remquo64(o.word64(0), o.word64(1));
+            format!("{} {quotient}", hex(value))
         }
         "reduce64" => reduced(reduce64(o.word64(0), o.unsigned(1), o.word64(2))),
         "reduce32" => reduced(reduce32(o.word32(0), o.unsigned(1), o.word32(2))),
@@ -76,21 +88,39 @@ fn on_patterns(operation: &str, o: &Operands) -> String {
     }
 }
 
-/// The answer without its status, of the operations that have a form on numbers.
+/// The answer of the operations that have a form on numbers, as patterns.
 fn on_numbers(operation: &str, o: &Operands) -> Option<String> {
     let double = |place| f64::from_bits(o.word64(place));
     let single = |place| f32::from_bits(o.word32(place));
+    let doubles = |alone: f64, (value, flags): (f64, Flags)| {
+        with_flags(alone.to_bits(), (value.to_bits(), flags))
+    };
+    let singles = |alone: f32, (value, flags): (f32, Flags)| {
+        with_flags(alone.to_bits(), (value.to_bits(), flags))
+    };
     Some(match operation {
-        "sqrt64" => hex(sqrt(double(0)).to_bits()),
-        "sqrt32" => hex(sqrtf(single(0)).to_bits()),
-        "floor64" => hex(floor(double(0)).to_bits()),
-        "floor32" => hex(floorf(single(0)).to_bits()),
-        "trunc64" => hex(trunc(double(0)).to_bits()),
-        "trunc32" => hex(truncf(single(0)).to_bits()),
-        "scalbn64" => hex(scalbn(double(0), o.signed(1)).to_bits()),
-        "scalbn32" => hex(scalbnf(single(0), o.signed(1)).to_bits()),
-        "fma64" => hex(fma(double(0), double(1), double(2)).to_bits()),
-        "fma32" => hex(fmaf(single(0), single(1), single(2)).to_bits()),
+        "sqrt64" => doubles(sqrt(double(0)), sqrt_flags(double(0))),
+        "sqrt32" => singles(sqrtf(single(0)), sqrtf_flags(single(0))),
+        "floor64" => doubles(floor(double(0)), floor_flags(double(0))),
+        "floor32" => singles(floorf(single(0)), floorf_flags(single(0))),
+        "trunc64" => doubles(trunc(double(0)), trunc_flags(double(0))),
+        "trunc32" => singles(truncf(single(0)), truncf_flags(single(0))),
+        "scalbn64" => doubles(
+            scalbn(double(0), o.signed(1)),
+            scalbn_flags(double(0), o.signed(1)),
+        ),
+        "scalbn32" => singles(
+            scalbnf(single(0), o.signed(1)),
+            scalbnf_flags(single(0), o.signed(1)),
+        ),
+        "fma64" => doubles(
+            fma(double(0), double(1), double(2)),
+            fma_flags(double(0), double(1), double(2)),
+        ),
+        "fma32" => singles(
+            fmaf(single(0), single(1), single(2)),
+            fmaf_flags(single(0), single(1), single(2)),
+        ),
         "fmod64" => hex(fmod(double(0), double(1)).to_bits()),
         "fmod32" => hex(fmodf(single(0), single(1)).to_bits()),
         "remquo64" => {
@@ -112,10 +142,7 @@ fn differences(claims: &[Claim]) -> Vec<String> {
         let Some(numbers) = on_numbers(&claim.operation, &claim.operands) else {
             continue;
         };
-        let without_status = claim
-            .answer
-            .trim_end_matches(|c: char| c.is_ascii_uppercase());
-        if numbers != without_status.trim_end() {
+        if numbers != claim.answer {
             found.push(format!("{}; on numbers {numbers}", claim.line));
         }
     }
@@ -156,6 +183,39 @@ fn the_recorded_cases_hold() {
     });
     println!(
         "{} recorded cases, on patterns and on numbers, in 2 threads",
+        claims.len()
+    );
+}
+
+/// Every operation that has flags, at either width, with every flag that it can raise.
+#[test]
+fn the_cases_of_flags_hold() {
+    let claims = claims::of_flags();
+    let mut found = BTreeMap::new();
+    for claim in &claims {
+        let (_, flags) = claim.answer.split_once(' ').expect("flags");
+        let all = found
+            .entry(claim.operation.as_str())
+            .or_insert(String::new());
+        all.push_str(flags);
+    }
+    assert_eq!(found.len(), 10);
+    for (operation, all) in found {
+        let rounds = operation.starts_with("fma") || operation.starts_with("scalbn");
+        for (flag, raised) in [
+            ("OK", true),
+            ("INVALID", true),
+            ("DIVBYZERO", false),
+            ("OVERFLOW", rounds),
+            ("UNDERFLOW", rounds),
+            ("INEXACT", true),
+        ] {
+            assert_eq!(all.contains(flag), raised, "{operation} {flag}");
+        }
+    }
+    all_hold(&claims);
+    println!(
+        "{} cases of flags, on patterns and on numbers",
         claims.len()
     );
 }

@@ -1,6 +1,7 @@
 //! The crate held to known answers, and at its limits.
 
 mod claims;
+mod flags;
 mod known;
 mod nans;
 mod refusals;

@@ -1,102 +1,106 @@
-//! NaNs: every operation answers the canonical one.
+//! NaNs: every operation answers the canonical one, and invalid is raised where one signals.
 
 use paskerotim::*;
 
 const ONE64: u64 = 0x3ff0000000000000;
 const ONE32: u32 = 0x3f800000;
 
-/// Quiet and signalling, of either sign, with payloads of one bit, of all bits and of some.
-const NANS64: [u64; 6] = [
-    0x7ff8000000000000,
-    0x7ff0000000000001,
-    0xfff0000000000001,
-    0x7fffffffffffffff,
-    0xffffffffffffffff,
-    0xfff8000012345678,
+/// Of either sign, with payloads of one bit, of all bits and of some; and whether it signals.
+const NANS64: [(u64, bool); 8] = [
+    (0x7ff8000000000000, false),
+    (0x7ff0000000000001, true),
+    (0xfff0000000000001, true),
+    (0x7fffffffffffffff, false),
+    (0xffffffffffffffff, false),
+    (0xfff8000012345678, false),
+    (0x7ff7ffffffffffff, true),
+    (0xfff4000000000000, true),
 ];
-const NANS32: [u32; 6] = [
-    0x7fc00000, 0x7f800001, 0xff800001, 0x7fffffff, 0xffffffff, 0xffc12345,
+const NANS32: [(u32, bool); 8] = [
+    (0x7fc00000, false),
+    (0x7f800001, true),
+    (0xff800001, true),
+    (0x7fffffff, false),
+    (0xffffffff, false),
+    (0xffc12345, false),
+    (0x7fbfffff, true),
+    (0xffa00000, true),
 ];
 
+/// The canonical NaN with invalid or with nothing, and not invalid with anything.
+fn canonical<T>(nan: T, invalid: bool) -> (T, Flags) {
+    let raised = Flags {
+        invalid,
+        ..Flags::NONE
+    };
+    (nan, raised)
+}
+
 #[test]
-fn floor_and_trunc_answer_it_with_ok() {
-    for nan in NANS64 {
-        let canonical = FpResult {
-            value: NAN64,
-            status: Status::Ok,
-        };
-        assert_eq!(
-            (floor64_status(nan), trunc64_status(nan)),
-            (canonical, canonical)
-        );
+fn of_one_operand() {
+    for (nan, signals) in NANS64 {
+        let wanted = canonical(NAN64, signals);
+        assert_eq!(sqrt64_flags(nan), wanted);
+        assert_eq!(floor64_flags(nan), wanted);
+        assert_eq!(trunc64_flags(nan), wanted);
+        assert_eq!(scalbn64_flags(nan, 7), wanted);
         let number = f64::from_bits(nan);
-        assert_eq!(
-            (floor(number).to_bits(), trunc(number).to_bits()),
-            (NAN64, NAN64)
-        );
+        assert_eq!(floor(number).to_bits(), NAN64);
+        assert_eq!(trunc(number).to_bits(), NAN64);
     }
-    for nan in NANS32 {
-        let canonical = FpResult {
-            value: NAN32,
-            status: Status::Ok,
-        };
-        assert_eq!(
-            (floor32_status(nan), trunc32_status(nan)),
-            (canonical, canonical)
-        );
+    for (nan, signals) in NANS32 {
+        let wanted = canonical(NAN32, signals);
+        assert_eq!(sqrt32_flags(nan), wanted);
+        assert_eq!(floor32_flags(nan), wanted);
+        assert_eq!(trunc32_flags(nan), wanted);
+        assert_eq!(scalbn32_flags(nan, 7), wanted);
         let number = f32::from_bits(nan);
-        assert_eq!(
-            (floorf(number).to_bits(), truncf(number).to_bits()),
-            (NAN32, NAN32)
-        );
+        assert_eq!(floorf(number).to_bits(), NAN32);
+        assert_eq!(truncf(number).to_bits(), NAN32);
     }
 }
 
 #[test]
-fn the_others_answer_it_and_sqrt_with_invalid() {
-    for nan in NANS64 {
-        assert_eq!(
-            sqrt64_status(nan),
-            FpResult {
-                value: NAN64,
-                status: Status::Invalid
-            }
-        );
-        assert_eq!(scalbn64(nan, 7), NAN64);
+fn of_several_operands() {
+    for (nan, signals) in NANS64 {
         for (x, y) in [(nan, ONE64), (ONE64, nan), (nan, nan)] {
-            assert_eq!(
-                (fmod64(x, y), fma64(x, y, ONE64), fma64(ONE64, x, y)),
-                (NAN64, NAN64, NAN64)
-            );
-            assert_eq!(
-                remquo64(x, y),
-                Remquo64 {
-                    value: NAN64,
-                    quotient: 0
-                }
-            );
+            assert_eq!(fma64_flags(x, y, ONE64), canonical(NAN64, signals));
+            assert_eq!(fma64_flags(ONE64, x, y), canonical(NAN64, signals));
+            assert_eq!(fmod64(x, y), NAN64);
+            assert_eq!(remquo64(x, y), (NAN64, 0));
         }
     }
-    for nan in NANS32 {
-        assert_eq!(
-            sqrt32_status(nan),
-            FpResult {
-                value: NAN32,
-                status: Status::Invalid
-            }
-        );
-        assert_eq!(scalbn32(nan, 7), NAN32);
+    for (nan, signals) in NANS32 {
         for (x, y) in [(nan, ONE32), (ONE32, nan), (nan, nan)] {
-            assert_eq!(
-                (fmod32(x, y), fma32(x, y, ONE32), fma32(ONE32, x, y)),
-                (NAN32, NAN32, NAN32)
-            );
+            assert_eq!(fma32_flags(x, y, ONE32), canonical(NAN32, signals));
+            assert_eq!(fma32_flags(ONE32, x, y), canonical(NAN32, signals));
+            assert_eq!(fmod32(x, y), NAN32);
         }
     }
 }
 
+/// Zero times infinity is invalid whatever is added to it; a NaN times either is not by itself.
 #[test]
-fn so_does_a_list() {
+fn of_zero_times_infinity() {
+    for (nan, signals) in NANS64 {
+        let infinite = 0x7ff0000000000000;
+        assert_eq!(fma64_flags(0, infinite, nan), canonical(NAN64, true));
+        assert_eq!(fma64_flags(infinite, 0, nan), canonical(NAN64, true));
+        assert_eq!(fma64_flags(nan, infinite, 0), canonical(NAN64, signals));
+        assert_eq!(fma64_flags(0, nan, infinite), canonical(NAN64, signals));
+    }
+    for (nan, signals) in NANS32 {
+        let infinite = 0x7f800000;
+        assert_eq!(fma32_flags(0, infinite, nan), canonical(NAN32, true));
+        assert_eq!(fma32_flags(infinite, 0, nan), canonical(NAN32, true));
+        assert_eq!(fma32_flags(nan, infinite, 0), canonical(NAN32, signals));
+        assert_eq!(fma32_flags(0, nan, infinite), canonical(NAN32, signals));
+    }
+}
+
+#[test]
+fn of_a_list() {
+    let xs = NANS64.map(|(nan, _)| nan);
     let mut ys = [0; NANS64.len()];
     for op in [
         ListOperation::Sqrt,
@@ -104,7 +108,7 @@ fn so_does_a_list() {
         ListOperation::Trunc,
     ] {
         ys.fill(0);
-        assert_eq!(list64(op, &NANS64, &mut ys), Ok(()));
+        assert_eq!(list64(op, &xs, &mut ys), Ok(()));
         assert_eq!(ys, [NAN64; NANS64.len()]);
     }
 }

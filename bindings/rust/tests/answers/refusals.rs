@@ -98,7 +98,7 @@ fn reductions_are_done_up_to_the_limits() {
 }
 
 #[test]
-fn refusals_and_statuses_have_their_numbers() {
+fn refusals_have_their_numbers() {
     let refusals = [
         (
             1,
@@ -136,21 +136,6 @@ fn refusals_and_statuses_have_their_numbers() {
     }
     assert_eq!(
         (Refusal::from_number(0), Refusal::from_number(6)),
-        (None, None)
-    );
-    for (number, status, text) in [
-        (0, Status::Ok, "OK"),
-        (1, Status::Invalid, "INVALID"),
-        (32, Status::Inexact, "INEXACT"),
-    ] {
-        assert_eq!(
-            (status.number(), Status::from_number(number)),
-            (number, Some(status))
-        );
-        assert_eq!(status.to_string(), text);
-    }
-    assert_eq!(
-        (Status::from_number(2), Status::from_number(33)),
         (None, None)
     );
     assert_eq!(OPERATIONS.map(ListOperation::number), [1, 2, 3]);

@@ -1,6 +1,6 @@
 -- The marked root at the halved exponent, rounded. Assumes nothing.
 use Prim.Native.Nat.{ℕ, _/_, _^_}
-use mathlib.Core.Path.{ap₂, _∙_}
+use mathlib.Core.Path.{ap, ap₂, _∙_}
 use mathlib.Core.Bool.{false}
 use native.Mathlib.Omega.{arith}
 use borrow.Author.Needs.{needs}
@@ -22,7 +22,7 @@ returns : tie.Need-returns
 returns c =
     let h = c .before in
     let s = h .before .before in
-    (simp (toZ-ofZ, half-fits h) at (c .round .ensures))
+    ap (λ g. g .0) (simp (toZ-ofZ, half-fits h) at (c .round .ensures))
     ∙ ap₂ (λ (u : ℕ) (n : ℤ). answer (format (s .args .frac) (s .args .expo)) ties-to-even false (scaled false u n)) (h .before .mark-inexact .ensures) (h .halve-exponent .ensures)
 
 round-requires : tie.Need-round-requires

@@ -4,8 +4,8 @@ use mir.Syntax.{w32}
 use mir.ValLaws.{toZ-ofZ}
 use borrow.Author.Needs.{needs}
 use Rattle.ieee.specs.Format.{b64, b32}
-use Rattle.ieee.specs.Scalbn.{scalbnOf}
-use Rattle.cmd_operations.specs.Table.{one, two, signed}
+use Rattle.ieee.specs.Scalbn.{scalbnOf, scalbnFlags}
+use Rattle.cmd_operations.specs.Table.{one, two, flagged, signed}
 use Rattle.pk.proofs.Answering.{under, no-row, both}
 use Rattle.pk.proofs.call.answer_of.Statement.{statement}
 use Rattle.pk.proofs.call.answer_of.Tie as tie
@@ -18,23 +18,25 @@ answer-of-spec =
     (λ c κs. tt) (λ c κs. tt) (λ c κs. tt) (λ c κs. tt) (λ c κs. tt) (λ c κs. tt) (λ c κs. tt) (λ c κs. tt) (λ c κs. tt) (λ c κs. tt)
     (λ c κs. tt) (λ c κs. tt) (λ c κs. tt) (λ c κs. tt) (λ c κs. tt) (λ c κs. tt) (λ c κs. tt) (λ c κs. tt) (λ c κs. tt) (λ c κs. tt)
     (λ c κs. tt)
-    (λ c. under 0 _ (c .before .before .match .keys1) (both two (c .status64 .ensures) (c .before .floor64-status .ensures)))
-    (λ c. under 1 _ (c .before .before .match .keys2) (both two (c .status32 .ensures) (c .before .floor32-status .ensures)))
-    (λ c. under 2 _ (c .before .before .match .keys3) (both two (c .status642 .ensures) (c .before .trunc64-status .ensures)))
-    (λ c. under 3 _ (c .before .before .match .keys4) (both two (c .status322 .ensures) (c .before .trunc32-status .ensures)))
+    (λ c. under 0 _ (c .before .before .match .keys1) (both flagged (c .flagged64 .ensures) (c .before .floor64-flags .ensures)))
+    (λ c. under 1 _ (c .before .before .match .keys2) (both flagged (c .flagged32 .ensures) (c .before .floor32-flags .ensures)))
+    (λ c. under 2 _ (c .before .before .match .keys3) (both flagged (c .flagged642 .ensures) (c .before .trunc64-flags .ensures)))
+    (λ c. under 3 _ (c .before .before .match .keys4) (both flagged (c .flagged322 .ensures) (c .before .trunc32-flags .ensures)))
     (λ c. under 4 _ (c .before .before .before .match .keys5)
-    (c .word64 .ensures ∙ ap one (c .before .scalbn64 .ensures ∙ ap (scalbnOf b64 _) (toZ-ofZ w32 (c .before .before .before .before .before .before .before .args .a .n)
-    (record { sfits = c .before .before .struct-told .given .1 .1 .1 .0 .1 })))))
+    (let e = toZ-ofZ w32 (c .before .before .before .before .before .before .before .args .a .n) (record { sfits = c .before .before .struct-told .given .1 .1 .1 .0 .1 }) in
+    let (v, f) = c .before .scalbn64-flags .ensures in
+    both flagged (c .flagged643 .ensures) (v ∙ ap (scalbnOf b64 _) e, f ∙ ap (scalbnFlags b64 _) e)))
     (λ c. under 5 _ (c .before .before .before .match .keys6)
-    (c .word32 .ensures ∙ ap one (c .before .scalbn32 .ensures ∙ ap (scalbnOf b32 _) (toZ-ofZ w32 (c .before .before .before .before .before .before .before .args .a .n)
-    (record { sfits = c .before .before .struct-told2 .given .1 .1 .1 .0 .1 })))))
-    (λ c. under 6 _ (c .before .before .match .keys7) (c .word642 .ensures ∙ ap one (c .before .fmod64 .ensures)))
-    (λ c. under 7 _ (c .before .before .match .keys8) (c .word322 .ensures ∙ ap one (c .before .fmod32 .ensures)))
+    (let e = toZ-ofZ w32 (c .before .before .before .before .before .before .before .args .a .n) (record { sfits = c .before .before .struct-told2 .given .1 .1 .1 .0 .1 }) in
+    let (v, f) = c .before .scalbn32-flags .ensures in
+    both flagged (c .flagged323 .ensures) (v ∙ ap (scalbnOf b32 _) e, f ∙ ap (scalbnFlags b32 _) e)))
+    (λ c. under 6 _ (c .before .before .match .keys7) (c .word64 .ensures ∙ ap one (c .before .fmod64 .ensures)))
+    (λ c. under 7 _ (c .before .before .match .keys8) (c .word32 .ensures ∙ ap one (c .before .fmod32 .ensures)))
     (λ c. under 8 _ (c .before .before .match .keys9) (both signed (c .quotient64 .ensures) (c .before .remquo64 .ensures)))
     (λ c. under 9 _ (c .before .before .match .keys10) (both two (c .refusal64 .ensures) (c .before .reduce64 .ensures)))
     (λ c. under 10 _ (c .before .before .match .keys11) (both two (c .refusal32 .ensures) (c .before .reduce32 .ensures)))
-    (λ c. under 11 _ (c .before .before .match .keys12) (both two (c .status643 .ensures) (c .before .sqrt64-status .ensures)))
-    (λ c. under 12 _ (c .before .before .match .keys13) (both two (c .status323 .ensures) (c .before .sqrt32-status .ensures)))
-    (λ c. under 13 _ (c .before .before .match .keys14) (c .word643 .ensures ∙ ap one (c .before .fma64 .ensures)))
-    (λ c. under 14 _ (c .before .before .match .keys15) (c .word323 .ensures ∙ ap one (c .before .fma32 .ensures)))
+    (λ c. under 11 _ (c .before .before .match .keys12) (both flagged (c .flagged644 .ensures) (c .before .sqrt64-flags .ensures)))
+    (λ c. under 12 _ (c .before .before .match .keys13) (both flagged (c .flagged324 .ensures) (c .before .sqrt32-flags .ensures)))
+    (λ c. under 13 _ (c .before .before .match .keys14) (both flagged (c .flagged645 .ensures) (c .before .fma64-flags .ensures)))
+    (λ c. under 14 _ (c .before .before .match .keys15) (both flagged (c .flagged325 .ensures) (c .before .fma32-flags .ensures)))
     (λ c. no-row _ (c .before .match .rest) (c .two-answers .ensures)))

@@ -1,5 +1,6 @@
 -- The normalised word has the neighbour and the location of the value (round_laws: Alignments), and a zero is its own (round_laws: Stretched). Assumes nothing.
 use mathlib.Core.Path.{sym, _∙_, subst}
+use mathlib.Core.Bool.{false}
 use native.Mathlib.Omega.{arith}
 use mir.Facts.{toZ-ofZ}
 use borrow.Author.Needs.{needs}
@@ -20,9 +21,9 @@ returns : tie.Need-returns
 returns c =
     let s = c .before in
     let f = format (s .args .frac) (s .args .expo) in
-    let (m, p) : Lies f (stretched (s .args .sig) (s .args .exp)) 0 0 =
-    subst (λ u. Lies f (stretched u (s .args .exp)) 0 0) (sym (c .if1 .taken)) (stretched-zero f (s .pre .0 .fair) (s .args .exp)) in
-    (sym m, sym p)
+    let (m, p, h, b) : Lies f (stretched (s .args .sig) (s .args .exp)) 0 0 false false =
+    subst (λ u. Lies f (stretched u (s .args .exp)) 0 0 false false) (sym (c .if1 .taken)) (stretched-zero f (s .pre .0 .fair) (s .args .exp)) in
+    (sym m, sym p, sym h, sym b)
 
 normalise-requires : tie.Need-normalise-requires
 normalise-requires c κs = search needs
@@ -33,8 +34,9 @@ locate-normalised-requires c κs = let i = known c in (c .before .before .pre .0
 returns-2 : tie.Need-returns-2
 returns-2 c =
     let s = c .before .before .before in
-    let (m, q) = filled-lies (format (s .args .frac) (s .args .expo)) (known (c .before)) in
-    (c .locate-normalised .ensures .0 ∙ sym m, c .locate-normalised .ensures .1 ∙ sym q)
+    let (m, q, h, b) = filled-lies (format (s .args .frac) (s .args .expo)) (known (c .before)) in
+    let (i, j, k, l) = c .locate-normalised .ensures in
+    (i ∙ sym m, j ∙ sym q, k ∙ sym h, l ∙ sym b)
 
 pub locate-spec : {M : Type 1} → statement M
 locate-spec = tie.close (tie.spec returns normalise-requires locate-normalised-requires returns-2)

@@ -1,13 +1,15 @@
 -- The four branches are the four cases of an alignment (round_laws: Alignments), and a format has at least four exponent fields (fmt_fields: Widths). Assumes nothing.
 use Prim.Native.Nat.{ℕ, _+_, _-_, _*_, _/_, _%_, _^_, _<_}
-use mathlib.Core.Path.{_≡_, _∙_}
+use mathlib.Core.Path.{_≡_, sym, ap, _∙_}
+use mathlib.Core.Bool.{Bool, false}
 use native.Mathlib.Omega.{arith}
 use borrow.Author.Needs.{needs}
 use Rattle.fmt_fields.specs.Width.{format, Fits}
+use Rattle.fmt_fields.proofs.Numbers.{infinity-some}
 use Rattle.fmt_fields.proofs.Widths.{four-fields, fields-small, field-room}
-use Rattle.round_laws.specs.Location.{below, location, part}
+use Rattle.round_laws.specs.Location.{below, location, high, beyond, part, highPart}
 use Rattle.round_laws.specs.Aligned.{filledAt, Stands}
-use Rattle.round_laws.proofs.Alignments.{stands-nothing, stands-low, stands-over, stands-normal}
+use Rattle.round_laws.proofs.Alignments.{stands-nothing, stands-low, stands-normal, lies-over}
 use Rattle.round_locate.proofs.locate.locate_normalised.Statement.{statement}
 use Rattle.round_locate.proofs.locate.locate_normalised.Tie as tie
 
@@ -16,8 +18,9 @@ module _ {p e s at t up k : ℕ} (w : Fits p e) (i : Stands p e s at t up k) whe
   room : up * 2 ^ p + t / 2 ^ k < 2 ^ 63
   room = field-room w up (t / 2 ^ k) (i .fields) (i .kept)
 
-  lies : {m l : ℕ} → (m ≡ up * 2 ^ p + t / 2 ^ k) × (l ≡ part (t % 2 ^ k) (2 ^ k)) → (m ≡ below (format p e) (filledAt s at)) × (l ≡ location (format p e) (filledAt s at))
-  lies (a, b) = (a ∙ i .lower, b ∙ i .part-is)
+  lies : {m l : ℕ} {h b : Bool} → (m ≡ up * 2 ^ p + t / 2 ^ k) × (l ≡ part (t % 2 ^ k) (2 ^ k)) × (h ≡ highPart (t % 2 ^ k) (2 ^ k)) × (b ≡ false)
+      → (m ≡ below (format p e) (filledAt s at)) × (l ≡ location (format p e) (filledAt s at)) × (h ≡ high (format p e) (filledAt s at)) × (b ≡ beyond (format p e) (filledAt s at))
+  lies (a, b, c, d) = (a ∙ i .lower, b ∙ i .part-is, c ∙ i .high-is, d ∙ i .beyond-is)
 
 sub-extra : tie.Need-sub-extra
 sub-extra c = search needs
@@ -46,13 +49,6 @@ normal c =
     (omega (arith, c .before .pow .ensures, fields-small w, c .before .before .wrapping-sub-u32 .ensures))
     (omega (arith, c .before .pow .ensures, four-fields w))
 
-over : (c : tie.Then2) → let g = c .before .before .before .before .args in Stands (g .frac) (g .expo) (g .sig) (g .at) (2 ^ 64 - 1) (2 ^ g .expo - 3) (63 - g .frac)
-over c =
-    let k = c .before .before in
-    let s = k .before .before in
-    stands-over (s .pre .0) (s .args .sig) (s .args .at) (s .pre .1) (omega arith) (s .args .at + (63 - s .args .frac) - 2097152) (omega arith)
-    (omega (arith, k .pow .ensures, four-fields (s .pre .0), k .before .wrapping-sub-u32 .ensures))
-
 shift-out-under-requires : tie.Need-shift-out-under-requires
 shift-out-under-requires c κs = let w = c .before .before .before .pre .0 in let i = normal c in (omega (arith, w .word, w .fair .expo-two), i .least, i .most, room w i)
 
@@ -62,27 +58,31 @@ returns c = lies (c .before .before .before .before .pre .0) (normal (c .before)
 add-if2 : tie.Need-add-if2
 add-if2 c = search needs
 
-shift-out-under-requires-2 : tie.Need-shift-out-under-requires-2
-shift-out-under-requires-2 c κs =
-    let w = c .before .before .before .before .pre .0 in
-    let i = over c in
-    rw (c .before .before .pow .ensures) (omega (arith, w .word, w .fair .expo-two), i .least, i .most, room w i)
+infinity-requires : tie.Need-infinity-requires
+infinity-requires c κs = search needs
+
+sub-t13 : tie.Need-sub-t13
+sub-t13 c = omega (arith, c .infinity .ensures, infinity-some (c .before .before .before .before .before .pre .0))
 
 returns-2 : tie.Need-returns-2
 returns-2 c =
     let k = c .before .before .before in
-    lies (k .before .before .pre .0) (over (c .before)) (rw (k .pow .ensures) at (c .shift-out-under2 .ensures))
+    let s = k .before .before in
+    let (a, b, h, d) =
+    lies-over (s .pre .0) (s .args .sig) (s .args .at) (s .pre .1) (omega arith) (s .args .at + (63 - s .args .frac) - 2097152) (omega arith)
+    (omega (arith, k .pow .ensures, four-fields (s .pre .0), k .before .wrapping-sub-u32 .ensures)) in
+    (ap (λ n. n - 1) (c .infinity .ensures) ∙ sym a, sym b, sym h, sym d)
 
 add-if3 : tie.Need-add-if3
 add-if3 c = search needs
 
-shift-out-under-requires-3 : tie.Need-shift-out-under-requires-3
-shift-out-under-requires-3 c κs = search needs
+shift-out-under-requires-2 : tie.Need-shift-out-under-requires-2
+shift-out-under-requires-2 c κs = search needs
 
 returns-3 : tie.Need-returns-3
 returns-3 c =
     let s = c .before .before .before .before .before .before in
-    lies (s .pre .0) (stands-nothing (s .pre .0) (s .args .sig) (s .args .at) (s .pre .1) (omega arith) (omega arith)) (c .shift-out-under3 .ensures)
+    lies (s .pre .0) (stands-nothing (s .pre .0) (s .args .sig) (s .args .at) (s .pre .1) (omega arith) (omega arith)) (c .shift-out-under2 .ensures)
 
 sub-shift-out-under : tie.Need-sub-shift-out-under
 sub-shift-out-under c = search needs
@@ -92,14 +92,14 @@ low c =
     let s = c .before .before .before .before .before in
     stands-low (s .pre .0) (s .args .sig) (s .args .at) (s .pre .1) (omega arith) (omega arith) (omega arith)
 
-shift-out-under-requires-4 : tie.Need-shift-out-under-requires-4
-shift-out-under-requires-4 c κs =
+shift-out-under-requires-3 : tie.Need-shift-out-under-requires-3
+shift-out-under-requires-3 c κs =
     let w = c .before .before .before .before .before .pre .0 in
     let i = low c in
     (omega (arith, w .word, w .fair .expo-two), i .least, i .most, room w i)
 
 returns-4 : tie.Need-returns-4
-returns-4 c = lies (c .before .before .before .before .before .before .pre .0) (low (c .before)) (c .shift-out-under4 .ensures)
+returns-4 c = lies (c .before .before .before .before .before .before .pre .0) (low (c .before)) (c .shift-out-under3 .ensures)
 
 pub locate-normalised-spec : {M : Type 1} → statement M
 locate-normalised-spec =
@@ -114,11 +114,12 @@ locate-normalised-spec =
     shift-out-under-requires
     returns
     add-if2
-    shift-out-under-requires-2
+    infinity-requires
+    sub-t13
     returns-2
     add-if3
-    shift-out-under-requires-3
+    shift-out-under-requires-2
     returns-3
     sub-shift-out-under
-    shift-out-under-requires-4
+    shift-out-under-requires-3
     returns-4)

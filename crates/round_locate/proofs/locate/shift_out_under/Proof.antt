@@ -1,6 +1,6 @@
 -- What is required leaves room for the field, and for the kept bits below it. Assumes nothing.
 use Prim.Native.Nat.{_+_, _*_}
-use mathlib.Core.Path.{ap₂}
+use mathlib.Core.Path.{refl, ap₂}
 use native.Mathlib.Omega.{arith}
 use borrow.Author.Needs.{needs}
 use Rattle.algebra.proofs.Products.{times}
@@ -25,7 +25,7 @@ returns : tie.Need-returns
 returns c =
     let d = c .before .before .shift-out .ensures in
     let s = c .before .before .before in
-    (ap₂ (λ u k. s .args .up * u + k) (c .before .pow .ensures) (d .0), d .1)
+    (ap₂ (λ u k. s .args .up * u + k) (c .before .pow .ensures) (d .0), d .1, d .2, refl)
 
 pub shift-out-under-spec : {M : Type 1} → statement M
 shift-out-under-spec = tie.close (tie.spec shift-out-requires pow-requires mul-t7 add-t8 returns)

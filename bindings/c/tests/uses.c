@@ -1,0 +1,113 @@
+/* Calls that must compile without a warning, in every standard of C and C++ that the header is for, and what they give: each
+   argument is evaluated once, an integer that is as wide or narrower is taken as ever, a name without its arguments is the
+   function, and no place but the one pointed to is written. Exit status: 0 all is as it must be, 1 something is not. */
+#include <stdio.h>
+
+#include "paskerotim.h"
+
+#define ROOT_OF_TWO UINT64_C(0x3ff6a09e667f3bcd)
+#define SMALL_ROOT_OF_TWO UINT32_C(0x3fb504f3)
+
+static int checks, failures;
+
+static void expect(int holds, const char *what) {
+    checks++;
+    if (holds) return;
+    failures++;
+    printf("FAILED: %s\n", what);
+}
+
+/* ---- each argument once, in every place */
+static int evaluated;
+static uint64_t wide(void) { return ++evaluated, pk_pattern64(2.0); }
+static uint32_t small(void) { return ++evaluated, pk_pattern32(2.0f); }
+static double number(void) { return ++evaluated, 2.0; }
+static float small_number(void) { return ++evaluated, 2.0f; }
+static int whole(void) { return ++evaluated, 1; }
+
+static void once(const char *what, int arguments) {
+    expect(evaluated == arguments, what);
+    evaluated = 0;
+}
+
+static void arguments_are_evaluated_once(void) {
+    uint64_t value;
+    uint32_t flags, rest;
+    int32_t quotient;
+    int n;
+    evaluated = 0;
+    (void)pk_sqrt64(wide()), (void)pk_sqrt32_flags(small(), &flags), once("an argument", 2);
+    (void)pk_fma64_flags(wide(), wide(), wide(), &flags), once("three patterns of 64 bits", 3);
+    (void)pk_fma32(small(), small(), small()), once("three patterns of 32 bits", 3);
+    (void)pk_scalbn64(wide(), whole()), (void)pk_scalbn32(small(), whole()), once("a pattern and a whole number", 4);
+    (void)pk_remquo64(wide(), wide(), &quotient), once("two patterns", 2);
+    (void)pk_reduce64(wide(), small(), wide(), &value), once("whole numbers of 64 bits", 3);
+    (void)pk_reduce32(small(), small(), small(), &rest), once("whole numbers of 32 bits", 3);
+    (void)pk_fma(number(), number(), number()), (void)pk_remquo(number(), number(), &n), once("doubles", 5);
+    (void)pk_fmaf_flags(small_number(), small_number(), small_number(), &flags), once("floats", 3);
+    (void)pk_scalbn(number(), whole()), (void)pk_scalbnf(small_number(), whole()), once("a number and a whole number", 4);
+}
+
+static void side_effects_happen_once(void) {
+    uint32_t patterns[3], *at = patterns;
+    patterns[0] = patterns[1] = pk_pattern32(4.0f), patterns[2] = 0;
+    expect(pk_sqrt32(*at++) == UINT32_C(0x40000000) && at == patterns + 1, "a step in an argument of 32 bits");
+    expect(pk_floor32(pk_sqrt32(*at++)) == UINT32_C(0x40000000) && at == patterns + 2, "a step in a call within a call");
+}
+
+/* ---- what integers and numbers are taken */
+struct packed {
+    unsigned int pattern : 31;
+    unsigned int rest : 1;
+};
+
+static void narrower_arguments_are_taken(void) {
+    unsigned char byte = 7;
+    short few = -1075;
+    uint32_t small_two = 0x40000000, flags;
+    uint64_t value;
+    struct packed packed;
+    packed.pattern = 0x40000000, packed.rest = 0;
+    expect(pk_sqrt32(0x40000000) == SMALL_ROOT_OF_TWO && pk_sqrt32(0x40000000u) == SMALL_ROOT_OF_TWO, "constants");
+    expect(pk_sqrt32(packed.pattern) == SMALL_ROOT_OF_TWO && packed.rest == 0, "a bit-field");
+    expect(pk_sqrt64(0x4000000000000000) == ROOT_OF_TWO && pk_sqrt64(0) == 0, "constants of 64 bits");
+    expect(pk_trunc64(small_two) == 0 && pk_floor64_flags(byte, &flags) == 0 && flags == PK_INEXACT, "32 bits for 64");
+    expect(pk_scalbn64(pk_pattern64(1.5), few) == 1 && pk_scalbn(1.5, few) > 0, "a short");
+    expect(pk_reduce64(1, 4096, byte, &value) == PK_DONE && value == 2, "a byte");
+    expect(pk_sqrt(4.0f) == 2.0 && pk_fma(2.0f, 3.0, 1.0f) == 7.0, "floats for doubles");
+}
+
+/* ---- names without their arguments, in a table and alone */
+static void names_are_functions(void) {
+    uint64_t (*const table[3])(uint64_t) = {pk_sqrt64, &pk_floor64, pk_trunc64};
+    uint32_t (*flagged)(uint32_t, uint32_t *) = pk_sqrt32_flags, flags = 0;
+    double (*root)(double) = pk_sqrt;
+    expect(table[0](pk_pattern64(2.0)) == ROOT_OF_TWO && table[1](1) == 0 && table[2](1) == 0, "a table");
+    expect(flagged(pk_pattern32(2.0f), &flags) == SMALL_ROOT_OF_TWO && flags == PK_INEXACT, "a pointer");
+    expect(root(4.0) == 2.0 && (pk_sqrt64)(pk_pattern64(2.0)) == ROOT_OF_TWO, "a name in parentheses");
+}
+
+/* ---- flags are overwritten, joined by the caller, and written in their place alone */
+static void flags_have_their_place(void) {
+    uint32_t flags[3] = {7, UINT32_MAX, 7}, all = PK_OK;
+    expect(pk_sqrt_flags(4.0, &flags[1]) == 2.0 && flags[1] == PK_OK, "what was raised before is gone");
+    all |= flags[1], (void)pk_sqrtf_flags(2.0f, &flags[1]), all |= flags[1];
+    expect(flags[1] == PK_INEXACT && all == PK_INEXACT, "an inexact root");
+    (void)pk_scalbn_flags(1.0, 1024, &flags[1]), all |= flags[1];
+    expect(flags[1] == (PK_OVERFLOW | PK_INEXACT), "an overflow");
+    (void)pk_fmaf_flags(pk_number32(1), 0.5f, 0.0f, &flags[1]), all |= flags[1];
+    expect(flags[1] == (PK_UNDERFLOW | PK_INEXACT), "an underflow");
+    (void)pk_sqrt64_flags(pk_pattern64(-1.0), &flags[1]), all |= flags[1];
+    expect(flags[1] == PK_INVALID && all == (PK_INVALID | PK_OVERFLOW | PK_UNDERFLOW | PK_INEXACT), "all that were raised");
+    expect(flags[0] == 7 && flags[2] == 7, "the places beside");
+}
+
+int main(void) {
+    arguments_are_evaluated_once();
+    side_effects_happen_once();
+    narrower_arguments_are_taken();
+    names_are_functions();
+    flags_have_their_place();
+    printf("%d checks of uses, %d failed\n", checks, failures);
+    return failures != 0;
+}

@@ -1,0 +1,16 @@
+-- What rounding an exact value once gives: a pattern and flags. Assumes nothing.
+use Prim.Native.Nat.{ℕ}
+use mathlib.Core.Bool.{Bool}
+use Rattle.ieee.specs.Format.{Format}
+use Rattle.ieee.specs.Exact.{Value}
+use Rattle.ieee.specs.Round.{Attribute, answer}
+use Rattle.ieee.specs.Flags.{Flags, raised}
+use Rattle.fmt_fields.specs.Raised.{flagsOf}
+use Rattle.round_step.specs.declared.round.Rounded.{Rounded}
+
+abbrev pub outcome : Format → Attribute → Bool → Value → ℕ × Flags
+outcome f a s v = (answer f a s v, raised f a s v)
+
+-- and the same as the code has it
+abbrev pub told : Rounded → ℕ × Flags
+told r = (r .bits, flagsOf (r .flags))

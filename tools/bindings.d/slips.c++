@@ -1,0 +1,5 @@
+pk_error_takes_a_pattern_not_a_number ::pk_sqrt64(a_double)
+pk_error_takes_a_pattern_not_a_number (pk_sqrt64)(a_double)
+pk_error_takes_a_pattern_not_a_number pk_sqrt64(a_torque)
+pk_error_takes_a_pattern_not_a_number pk_fma32(a_uint32, a_uint32, a_torque)
+pk_error_takes_nothing_wider pk_sqrtf(a_torque)
