@@ -1,3 +1,4 @@
 pub mod Width
 pub mod Normal
 pub mod Raised
+pub mod Numbered

@@ -7,6 +7,7 @@ ghost use Rattle.fmt_fields.specs.Normal.{normal, normalField};
 use word_bits::pow;
 
 pub mod env;
+pub mod numbered;
 pub mod pattern;
 
 pub fn exponent_field(frac: u32, expo: u32, x: u64) -> u64
