@@ -9,6 +9,8 @@ ghost use Rattle.fmt_fields.specs.Raised.{flagsOf};
 ghost use Rattle.flagged.specs.Record.{recordOf};
 use fmt_fields::env::Raised;
 
+pub mod rounded;
+
 // The exceptions of IEEE 754, clause 7, raised or not.
 pub struct Flags {
     pub invalid: bool,

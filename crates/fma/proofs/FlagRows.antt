@@ -3,30 +3,29 @@ use Prim.Native.Nat.{ℕ, zero, suc, _+_, _*_, _^_, _≤_, _<_, max}
 use mathlib.Core.Path.{_≡_, refl, sym, ap, ap₂, _∙_, subst}
 use mathlib.Core.Logic.{_⊎_, inl, inr, ⊎-elim}
 use mathlib.Core.Bool.{Bool, true, false, true≢false, _||_, cond}
-use native.Mathlib.Nat.{mod-eq-of-lt}
 use native.Mathlib.Omega.{arith}
 use borrow.Author.Tests.{eqb-false, eq-eqb, ne-eqb}
 use lib.Dec.{eqb}
 use lib.IntN.{ℤ, pos, _+ℤ_, _*ℤ_}
-use lib.Pow.{pow-pos}
 use Rattle.algebra.proofs.Products.{order, times}
 use Rattle.algebra.proofs.Integers.{addZ, eqZ}
 use Rattle.ieee.specs.Format.{Format, Fair, low, inf, units}
-use Rattle.ieee.specs.Pattern.{Pattern, magnitude, minus, unlike, withSign, value, Kind, nan, infinite, finite, kind}
-use Rattle.ieee.specs.Round.{ties-to-even}
+use Rattle.ieee.specs.Pattern.{Pattern, magnitude, minus, signed, unlike, withSign, value, Kind, nan, infinite, finite, kind}
+use Rattle.ieee.specs.Round.{Attribute}
 use Rattle.ieee.specs.Flags.{none, onlyInvalid, nanFlags}
 use Rattle.ieee.specs.FlagsRule.{Exactly}
-use Rattle.ieee.specs.Fma.{times as times-kinds, clashes, signalled, plusFlagsBy, fmaFlagsIn, fmaOf, fmaFlags, exactFma, against, productSign}
+use Rattle.ieee.specs.Fma.{times as times-kinds, clashes, signalled, plusFlagsBy, fmaIn, fmaFlagsIn, zeroSum, exactFma, against, productSign}
 use Rattle.ieee.proofs.Units.{units-zero, units-lt}
-use Rattle.ieee.proofs.Patterns.{value-is, kind-nan, kind-infinite, kind-finite, finite-is}
-use Rattle.ieee.proofs.Signs.{signed-times, signed-product, signed-zero}
+use Rattle.ieee.proofs.Patterns.{magnitude-signed, signed-is, value-is, kind-nan, kind-infinite, kind-finite, finite-is}
+use Rattle.ieee.proofs.Signs.{signed-product, signed-zero}
 use Rattle.ieee.proofs.Fmas.{times-infinite}
 use Rattle.ieee.proofs.FmaFlags.{fma-flags-rule}
+use Rattle.fma_laws.proofs.Fused.{room, zero-times}
 use Rattle.fma.specs.Special.{special, opposes, opposed}
 use Rattle.fma.proofs.Rows.{unlike-zeros, leaves-z, then-zero, infinite-product}
 
 -- ---- a zero product is exact
-module _ (f : Format) (g : Fair f) (x y z : ℕ) (b : Pattern f z) (l : magnitude f x < inf f) (h : magnitude f y < inf f) (k : magnitude f z < inf f) (n : (magnitude f x ≡ 0) ⊎ (magnitude f y ≡ 0)) where
+module _ (f : Format) (g : Fair f) (a : Attribute) (x y z : ℕ) (b : Pattern f z) (l : magnitude f x < inf f) (h : magnitude f y < inf f) (k : magnitude f z < inf f) (n : (magnitude f x ≡ 0) ⊎ (magnitude f y ≡ 0)) where
   abbrev u : ℕ
   u = units f (magnitude f x)
 
@@ -36,41 +35,38 @@ module _ (f : Format) (g : Fair f) (x y z : ℕ) (b : Pattern f z) (l : magnitud
   no-product : u * v ≡ 0
   no-product =
       ⊎-elim
-      (λ e. let a : u ≡ 0 = ap (units f) e ∙ units-zero f in omega (arith, times v a))
-      (λ e. let a : v ≡ 0 = ap (units f) e ∙ units-zero f in omega (arith, times u a)) n
+      (λ e. let c : u ≡ 0 = ap (units f) e ∙ units-zero f in omega (arith, times v c))
+      (λ e. let c : v ≡ 0 = ap (units f) e ∙ units-zero f in omega (arith, times u c)) n
 
   no-value : value f x *ℤ value f y ≡ pos 0
   no-value = (λ i. value-is f x i *ℤ value-is f y i) ∙ signed-product (minus f x) (minus f y) u v ∙ ap (withSign (unlike (minus f x) (minus f y))) no-product ∙ signed-zero (unlike (minus f x) (minus f y))
 
   third-alone : value f x *ℤ value f y +ℤ value f z *ℤ pos (2 ^ low f) ≡ value f z *ℤ pos (2 ^ low f)
   third-alone =
-      let a = value f z *ℤ pos (2 ^ low f) in
-      ap (λ c. c +ℤ a) no-value ∙ eqZ (pos 0 +ℤ a) a (omega (arith, addZ (pos 0) a))
+      let c = value f z *ℤ pos (2 ^ low f) in
+      ap (λ d. d +ℤ c) no-value ∙ eqZ (pos 0 +ℤ c) c (omega (arith, addZ (pos 0) c))
 
-  -- a zero has no value
-  zero-value : (w : ℕ) → magnitude f w ≡ 0 → value f w *ℤ pos (2 ^ low f) ≡ pos 0
-  zero-value w e =
-      let a : units f (magnitude f w) ≡ 0 = ap (units f) e ∙ units-zero f in
-      (λ i. (value-is f w ∙ ap (withSign (minus f w)) a ∙ signed-zero (minus f w)) i *ℤ pos (2 ^ low f)) ∙ signed-times false 0 (2 ^ low f) ∙ ap pos (omega arith)
+  -- z is a zero
+  third-none : magnitude f z ≡ 0 → value f z *ℤ pos (2 ^ low f) ≡ pos 0
+  third-none e = (λ i. value f (sym (signed-is f z b) i) *ℤ pos (2 ^ low f)) ∙ ap (λ m. value f (signed f (minus f z) m) *ℤ pos (2 ^ low f)) e ∙ zero-times f (minus f z)
 
-  exact-row : Exactly f (exactFma f x y z) (fmaOf f x y z)
+  exact-row : Exactly f (exactFma f x y z) (fmaIn f a x y z)
   exact-row =
       order 1 (magnitude f z)
-      (λ q. leaves (leaves-z f x y z b l h k n (λ e. absurd (omega arith))))
+      (λ q. leaves (leaves-z f a x y z b l h k n (λ e. absurd (omega arith))))
       (λ q. by-sign (against f x y z) refl (omega arith))
     where
-      leaves : z ≡ fmaOf f x y z → Exactly f (exactFma f x y z) (fmaOf f x y z)
+      leaves : z ≡ fmaIn f a x y z → Exactly f (exactFma f x y z) (fmaIn f a x y z)
       leaves e = subst (Exactly f (exactFma f x y z)) e (k, third-alone)
 
-      by-sign : (a : Bool) → against f x y z ≡ a → magnitude f z ≡ 0 → Exactly f (exactFma f x y z) (fmaOf f x y z)
-      by-sign false a e = leaves (leaves-z f x y z b l h k n (λ _. a))
-      by-sign true a e =
-          let m : magnitude f 0 ≡ 0 = mod-eq-of-lt (pow-pos (f .frac + f .expo)) in
-          subst (Exactly f (exactFma f x y z)) (unlike-zeros f x y z b l h k n e a) (omega (arith, m, k), third-alone ∙ zero-value z e ∙ sym (zero-value 0 m))
+      by-sign : (o : Bool) → against f x y z ≡ o → magnitude f z ≡ 0 → Exactly f (exactFma f x y z) (fmaIn f a x y z)
+      by-sign false o e = leaves (leaves-z f a x y z b l h k n (λ _. o))
+      by-sign true o e =
+          subst (Exactly f (exactFma f x y z)) (unlike-zeros f a x y z b l h k n e o)
+          (omega (arith, magnitude-signed f (zeroSum a) 0 (room f true), k), third-alone ∙ third-none e ∙ sym (zero-times f (zeroSum a)))
 
-  zero-silent : fmaFlags f x y z ≡ none
-  unfolding fmaOf fmaFlags
-  zero-silent = fma-flags-rule f g ties-to-even x y z u v (units f (magnitude f z)) (kind-finite f x l) (kind-finite f y h) (kind-finite f z k) .exact-none exact-row
+  zero-silent : fmaFlagsIn f a x y z ≡ none
+  zero-silent = fma-flags-rule f g a x y z u v (units f (magnitude f z)) (kind-finite f x l) (kind-finite f y h) (kind-finite f z k) .exact-none exact-row
 
 -- ---- the rows by kind
 abbrev is-number : Kind → Bool
@@ -93,43 +89,43 @@ factors-finite (finite (suc u)) infinite e = no-number refl e
 factors-finite (finite u) (finite v) e = (u, v, refl, refl)
 
 -- only opposite infinities are invalid
-plus-flags : (f : Format) (s t : Bool) (p l : Kind) → ((u w : ℕ) → p ≡ finite u → l ≡ finite w → plusFlagsBy f ties-to-even s p t l ≡ none)
-    → plusFlagsBy f ties-to-even s p t l ≡ nanFlags (opposes (unlike s t) p l)
+plus-flags : (f : Format) (a : Attribute) (s t : Bool) (p l : Kind) → ((u w : ℕ) → p ≡ finite u → l ≡ finite w → plusFlagsBy f a s p t l ≡ none)
+    → plusFlagsBy f a s p t l ≡ nanFlags (opposes (unlike s t) p l)
 unfolding plusFlagsBy
-plus-flags f s t nan l h = refl
-plus-flags f s t infinite nan h = refl
-plus-flags f s t infinite infinite h = refl
-plus-flags f s t infinite (finite w) h = refl
-plus-flags f s t (finite p) nan h = refl
-plus-flags f s t (finite p) infinite h = refl
-plus-flags f s t (finite p) (finite w) h = h p w refl refl
+plus-flags f a s t nan l h = refl
+plus-flags f a s t infinite nan h = refl
+plus-flags f a s t infinite infinite h = refl
+plus-flags f a s t infinite (finite w) h = refl
+plus-flags f a s t (finite p) nan h = refl
+plus-flags f a s t (finite p) infinite h = refl
+plus-flags f a s t (finite p) (finite w) h = h p w refl refl
 
 -- ---- no operand signals, and no zero meets an infinity
-module _ (f : Format) (g : Fair f) (x y z : ℕ) (b : Pattern f z) (s : special f x y z ≡ true) (d : signalled f x y z ≡ false) (c : clashes (kind f x) (kind f y) ≡ false) where
-  by-product : fmaFlags f x y z ≡ plusFlagsBy f ties-to-even (productSign f x y) (times-kinds (kind f x) (kind f y)) (minus f z) (kind f z)
-  unfolding fmaFlags fmaFlagsIn
-  by-product = λ i. cond (d i || c i) onlyInvalid (plusFlagsBy f ties-to-even (productSign f x y) (times-kinds (kind f x) (kind f y)) (minus f z) (kind f z))
+module _ (f : Format) (g : Fair f) (a : Attribute) (x y z : ℕ) (b : Pattern f z) (s : special f x y z ≡ true) (d : signalled f x y z ≡ false) (c : clashes (kind f x) (kind f y) ≡ false) where
+  by-product : fmaFlagsIn f a x y z ≡ plusFlagsBy f a (productSign f x y) (times-kinds (kind f x) (kind f y)) (minus f z) (kind f z)
+  unfolding fmaFlagsIn
+  by-product = λ i. cond (d i || c i) onlyInvalid (plusFlagsBy f a (productSign f x y) (times-kinds (kind f x) (kind f y)) (minus f z) (kind f z))
 
-  number : (p l : Kind) → times-kinds (kind f x) (kind f y) ≡ p → kind f z ≡ l → (u w : ℕ) → p ≡ finite u → l ≡ finite w → plusFlagsBy f ties-to-even (productSign f x y) p (minus f z) l ≡ none
+  number : (p l : Kind) → times-kinds (kind f x) (kind f y) ≡ p → kind f z ≡ l → (u w : ℕ) → p ≡ finite u → l ≡ finite w → plusFlagsBy f a (productSign f x y) p (minus f z) l ≡ none
   number p l i j u w q r =
       let (m, n, e, h) = factors-finite (kind f x) (kind f y) (i ∙ q) in
-      let a = finite-is f x m e .below in
+      let c = finite-is f x m e .below in
       let k = finite-is f y n h .below in
       let o = finite-is f z w (j ∙ r) .below in
-      (λ t. plusFlagsBy f ties-to-even (productSign f x y) (sym i t) (minus f z) (sym j t)) ∙ sym by-product ∙ zero-silent f g x y z b a k o (then-zero f x y z s a k o)
+      (λ t. plusFlagsBy f a (productSign f x y) (sym i t) (minus f z) (sym j t)) ∙ sym by-product ∙ zero-silent f g a x y z b c k o (then-zero f x y z s c k o)
 
-  pub silent-row : fmaFlags f x y z ≡ nanFlags (opposed f x y z)
-  silent-row = by-product ∙ plus-flags f (productSign f x y) (minus f z) (times-kinds (kind f x) (kind f y)) (kind f z) (number (times-kinds (kind f x) (kind f y)) (kind f z) refl refl)
+  pub silent-row : fmaFlagsIn f a x y z ≡ nanFlags (opposed f x y z)
+  silent-row = by-product ∙ plus-flags f a (productSign f x y) (minus f z) (times-kinds (kind f x) (kind f y)) (kind f z) (number (times-kinds (kind f x) (kind f y)) (kind f z) refl refl)
 
 -- ---- invalid in the others
-module _ (f : Format) (x y z : ℕ) where
-  pub signalled-row : signalled f x y z ≡ true → nanFlags true ≡ fmaFlags f x y z
-  unfolding fmaFlags fmaFlagsIn
-  signalled-row d = sym (ap (λ t. cond (t || clashes (kind f x) (kind f y)) onlyInvalid (plusFlagsBy f ties-to-even (productSign f x y) (times-kinds (kind f x) (kind f y)) (minus f z) (kind f z))) d)
+module _ (f : Format) (a : Attribute) (x y z : ℕ) where
+  pub signalled-row : signalled f x y z ≡ true → nanFlags true ≡ fmaFlagsIn f a x y z
+  unfolding fmaFlagsIn
+  signalled-row d = sym (ap (λ t. cond (t || clashes (kind f x) (kind f y)) onlyInvalid (plusFlagsBy f a (productSign f x y) (times-kinds (kind f x) (kind f y)) (minus f z) (kind f z))) d)
 
-  pub clash-row : signalled f x y z ≡ false → clashes (kind f x) (kind f y) ≡ true → nanFlags true ≡ fmaFlags f x y z
-  unfolding fmaFlags fmaFlagsIn
-  clash-row d c = λ i. cond (sym d i || sym c i) onlyInvalid (plusFlagsBy f ties-to-even (productSign f x y) (times-kinds (kind f x) (kind f y)) (minus f z) (kind f z))
+  pub clash-row : signalled f x y z ≡ false → clashes (kind f x) (kind f y) ≡ true → nanFlags true ≡ fmaFlagsIn f a x y z
+  unfolding fmaFlagsIn
+  clash-row d c = λ i. cond (sym d i || sym c i) onlyInvalid (plusFlagsBy f a (productSign f x y) (times-kinds (kind f x) (kind f y)) (minus f z) (kind f z))
 
 -- ---- the tests, by magnitude
 units-none : (f : Format) (m : ℕ) → eqb (units f m) 0 ≡ eqb m 0

@@ -9,8 +9,8 @@ use lib.Dec.{leb, eqb}
 use Rattle.algebra.proofs.Products.{order, times}
 use Rattle.ieee.specs.Format.{Format, inf, units, canonical}
 use Rattle.ieee.specs.Pattern.{Pattern, magnitude, field, minus, signed, unlike, Kind, nan, infinite, finite, kind}
-use Rattle.ieee.specs.Round.{ties-to-even}
-use Rattle.ieee.specs.Fma.{times as times-kinds, sumOf, zeroSum, plusBy, fmaIn, fmaOf, InfiniteProduct, of-both, of-first, of-second, productSign, against}
+use Rattle.ieee.specs.Round.{Attribute}
+use Rattle.ieee.specs.Fma.{times as times-kinds, sumOf, zeroSum, plusBy, fmaIn, InfiniteProduct, of-both, of-first, of-second, productSign, against}
 use Rattle.ieee.specs.FmaRows.{FmaRows}
 use Rattle.ieee.proofs.Units.{units-zero, units-lt}
 use Rattle.ieee.proofs.Patterns.{inf-below-top, canonical-pattern, pattern-signed, kind-nan, kind-infinite, kind-finite, signed-is}
@@ -20,6 +20,8 @@ use Rattle.ieee.proofs.Fmas.{fma-rows}
 use Rattle.fmt_fields.specs.Width.{format, Fits}
 use Rattle.fmt_decode.specs.Aside.{aside}
 use Rattle.fmt_decode.proofs.Asides.{set-aside, field-last}
+use Rattle.fma_laws.specs.Fused.{zeroIn}
+use Rattle.fma_laws.proofs.Fused.{zero-by-row}
 use Rattle.fma.specs.Special.{special}
 
 -- ---- kinds, by magnitude
@@ -33,36 +35,11 @@ some-kind f x p l = let (u, e) = go (units f (magnitude f x)) (omega (arith, uni
     go zero l = absurd (omega arith)
     go (suc n) l = (n, refl)
 
+-- ---- an infinite factor
+abbrev Infinite : Format → ℕ → ℕ → Type 0
+Infinite f x y = (magnitude f x ≡ inf f) ⊎ (magnitude f y ≡ inf f)
+
 module _ (f : Format) (x y z : ℕ) where
-  of-in : fmaIn f ties-to-even x y z ≡ fmaOf f x y z
-  unfolding fmaOf
-  of-in = refl
-
-  rows : FmaRows f ties-to-even x y z (fmaIn f ties-to-even x y z)
-  rows = fma-rows f ties-to-even x y z
-
-  -- ---- a NaN anywhere
-  pub nan-x : inf f < magnitude f x → canonical f ≡ fmaOf f x y z
-  nan-x l = sym (rows .nan-first (kind-nan f x l)) ∙ of-in
-
-  pub nan-y : inf f < magnitude f y → canonical f ≡ fmaOf f x y z
-  nan-y l = sym (rows .nan-second (kind-nan f y l)) ∙ of-in
-
-  pub nan-z : inf f < magnitude f z → canonical f ≡ fmaOf f x y z
-  nan-z l = sym (rows .nan-third (kind-nan f z l)) ∙ of-in
-
-  -- ---- an infinite factor
-  abbrev Infinite : Type 0
-  Infinite = (magnitude f x ≡ inf f) ⊎ (magnitude f y ≡ inf f)
-
-  pub zero-x : 0 < inf f → Infinite → magnitude f x ≡ 0 → canonical f ≡ fmaOf f x y z
-  zero-x some i e =
-      ⊎-elim (λ h. absurd (omega arith)) (λ h. sym (rows .zero-by-infinity (zero-kind f x some e) (kind-infinite f y h)) ∙ of-in) i
-
-  pub zero-y : 0 < inf f → Infinite → magnitude f y ≡ 0 → canonical f ≡ fmaOf f x y z
-  zero-y some i e =
-      ⊎-elim (λ h. sym (rows .infinity-by-zero (kind-infinite f x h) (zero-kind f y some e)) ∙ of-in) (λ h. absurd (omega arith)) i
-
   infinite-first : magnitude f x ≡ inf f → 0 < magnitude f y → magnitude f y ≤ inf f → InfiniteProduct f x y
   infinite-first e p l =
       order (inf f) (magnitude f y)
@@ -75,57 +52,8 @@ module _ (f : Format) (x y z : ℕ) where
       (λ h. of-both (kind-infinite f x (omega arith)) (kind-infinite f y e))
       (λ h. let (u, k) = some-kind f x p h in of-second k (kind-infinite f y e))
 
-  pub infinite-product : Infinite → 0 < magnitude f x → 0 < magnitude f y → magnitude f x ≤ inf f → magnitude f y ≤ inf f → InfiniteProduct f x y
+  pub infinite-product : Infinite f x y → 0 < magnitude f x → 0 < magnitude f y → magnitude f x ≤ inf f → magnitude f y ≤ inf f → InfiniteProduct f x y
   infinite-product i p q l h = ⊎-elim (λ e. infinite-first e q h) (λ e. infinite-second e p l) i
-
-  pub opposite : InfiniteProduct f x y → magnitude f z ≡ inf f → against f x y z ≡ true → canonical f ≡ fmaOf f x y z
-  opposite i e u = sym (rows .opposite-infinities i (kind-infinite f z e) u) ∙ of-in
-
-  -- the product decides where z is finite or has its sign
-  pub decides : InfiniteProduct f x y → magnitude f z ≤ inf f → (magnitude f z ≡ inf f → against f x y z ≡ false) → signed f (productSign f x y) (inf f) ≡ fmaOf f x y z
-  decides i l u =
-      order (inf f) (magnitude f z)
-      (λ h. let e : magnitude f z ≡ inf f = omega arith in sym (rows .like-infinities i (kind-infinite f z e) (u e)) ∙ of-in)
-      (λ h. sym (rows .infinite-product (units f (magnitude f z)) i (kind-finite f z h)) ∙ of-in)
-
-  -- ---- an infinite z
-  pub infinite-z : Pattern f z → magnitude f x < inf f → magnitude f y < inf f → magnitude f z ≡ inf f → z ≡ fmaOf f x y z
-  infinite-z b l h e = sym (rows .infinite-third (units f (magnitude f x)) (units f (magnitude f y)) b (kind-finite f x l) (kind-finite f y h) (kind-infinite f z e)) ∙ of-in
-
-  -- ---- a zero product
-  module _ (b : Pattern f z) (l : magnitude f x < inf f) (h : magnitude f y < inf f) (k : magnitude f z < inf f) (n : (magnitude f x ≡ 0) ⊎ (magnitude f y ≡ 0)) where
-    abbrev u : ℕ
-    u = units f (magnitude f x)
-
-    abbrev v : ℕ
-    v = units f (magnitude f y)
-
-    no-product : u * v ≡ 0
-    no-product =
-        ⊎-elim
-        (λ e. let a : u ≡ 0 = ap (units f) e ∙ units-zero f in omega (arith, times v a))
-        (λ e. let a : v ≡ 0 = ap (units f) e ∙ units-zero f in omega (arith, times u a)) n
-
-    pub unlike-zeros : magnitude f z ≡ 0 → against f x y z ≡ true → 0 ≡ fmaOf f x y z
-    unlike-zeros e a = sym (rows .unlike-zeros u v (kind-finite f x l) (kind-finite f y h) no-product (zero-kind f z (omega arith) e) a (λ d. d)) ∙ of-in
-
-    -- z itself: it is not a zero, or is a zero of the product's sign
-    same-zeros : magnitude f z ≡ 0 → against f x y z ≡ false → z ≡ fmaOf f x y z
-    same-zeros e a =
-        let s : productSign f x y ≡ minus f z = like-is (productSign f x y) (minus f z) a in
-        sym (signed-is f z b) ∙ (λ i. signed f (sym s i) (e i)) ∙ sym (rows .like-zeros u v (kind-finite f x l) (kind-finite f y h) no-product (zero-kind f z (omega arith) e) a) ∙ of-in
-      where
-        like-is : (s t : Bool) → unlike s t ≡ false → s ≡ t
-        like-is false false e = refl
-        like-is false true e = absurd (true≢false e)
-        like-is true false e = absurd (true≢false e)
-        like-is true true e = refl
-
-    pub leaves-z : (magnitude f z ≡ 0 → against f x y z ≡ false) → z ≡ fmaOf f x y z
-    leaves-z a =
-        order (magnitude f z) 0
-        (λ q. let e : magnitude f z ≡ 0 = omega arith in same-zeros e (a e))
-        (λ q. let (w, e) = some-kind f z q k in sym (rows .zero-product u v w b (kind-finite f x l) (kind-finite f y h) no-product e) ∙ of-in)
 
   -- the last exponent field is that of infinities and NaNs
   pub last-is-high : eqb (field f z) (2 ^ f .expo - 1) ≡ leb (inf f) (magnitude f z)
@@ -152,12 +80,90 @@ module _ (f : Format) (x y z : ℕ) where
       by false true i j e = absurd (true≢false e)
       by false false i j e = (i, j, omega (arith, leb-false (inf f) (magnitude f z) e))
 
+-- ---- the rows, under every attribute
+module _ (f : Format) (a : Attribute) (x y z : ℕ) where
+  rows : FmaRows f a x y z (fmaIn f a x y z)
+  rows = fma-rows f a x y z
+
+  -- a NaN anywhere
+  pub nan-x : inf f < magnitude f x → canonical f ≡ fmaIn f a x y z
+  nan-x l = sym (rows .nan-first (kind-nan f x l))
+
+  pub nan-y : inf f < magnitude f y → canonical f ≡ fmaIn f a x y z
+  nan-y l = sym (rows .nan-second (kind-nan f y l))
+
+  pub nan-z : inf f < magnitude f z → canonical f ≡ fmaIn f a x y z
+  nan-z l = sym (rows .nan-third (kind-nan f z l))
+
+  -- an infinite factor
+  pub zero-x : 0 < inf f → Infinite f x y → magnitude f x ≡ 0 → canonical f ≡ fmaIn f a x y z
+  zero-x some i e =
+      ⊎-elim (λ h. absurd (omega arith)) (λ h. sym (rows .zero-by-infinity (zero-kind f x some e) (kind-infinite f y h))) i
+
+  pub zero-y : 0 < inf f → Infinite f x y → magnitude f y ≡ 0 → canonical f ≡ fmaIn f a x y z
+  zero-y some i e =
+      ⊎-elim (λ h. sym (rows .infinity-by-zero (kind-infinite f x h) (zero-kind f y some e))) (λ h. absurd (omega arith)) i
+
+  pub opposite : InfiniteProduct f x y → magnitude f z ≡ inf f → against f x y z ≡ true → canonical f ≡ fmaIn f a x y z
+  opposite i e u = sym (rows .opposite-infinities i (kind-infinite f z e) u)
+
+  -- the product decides where z is finite or has its sign
+  pub decides : InfiniteProduct f x y → magnitude f z ≤ inf f → (magnitude f z ≡ inf f → against f x y z ≡ false) → signed f (productSign f x y) (inf f) ≡ fmaIn f a x y z
+  decides i l u =
+      order (inf f) (magnitude f z)
+      (λ h. let e : magnitude f z ≡ inf f = omega arith in sym (rows .like-infinities i (kind-infinite f z e) (u e)))
+      (λ h. sym (rows .infinite-product (units f (magnitude f z)) i (kind-finite f z h)))
+
+  -- an infinite z
+  pub infinite-z : Pattern f z → magnitude f x < inf f → magnitude f y < inf f → magnitude f z ≡ inf f → z ≡ fmaIn f a x y z
+  infinite-z b l h e = sym (rows .infinite-third (units f (magnitude f x)) (units f (magnitude f y)) b (kind-finite f x l) (kind-finite f y h) (kind-infinite f z e))
+
+  -- a zero product
+  module _ (b : Pattern f z) (l : magnitude f x < inf f) (h : magnitude f y < inf f) (k : magnitude f z < inf f) (n : (magnitude f x ≡ 0) ⊎ (magnitude f y ≡ 0)) where
+    abbrev u : ℕ
+    u = units f (magnitude f x)
+
+    abbrev v : ℕ
+    v = units f (magnitude f y)
+
+    no-product : u * v ≡ 0
+    no-product =
+        ⊎-elim
+        (λ e. let c : u ≡ 0 = ap (units f) e ∙ units-zero f in omega (arith, times v c))
+        (λ e. let c : v ≡ 0 = ap (units f) e ∙ units-zero f in omega (arith, times u c)) n
+
+    -- two zeros of unlike signs
+    pub unlike-zeros : magnitude f z ≡ 0 → against f x y z ≡ true → zeroIn f a ≡ fmaIn f a x y z
+    unlike-zeros e o =
+        let c = zero-kind f z (omega arith) e in
+        sym (zero-by-row f a
+        (rows .unlike-zeros u v (kind-finite f x l) (kind-finite f y h) no-product c o)
+        (rows .unlike-zeros-down u v (kind-finite f x l) (kind-finite f y h) no-product c o))
+
+    -- z itself: it is not a zero, or is a zero of the product's sign
+    same-zeros : magnitude f z ≡ 0 → against f x y z ≡ false → z ≡ fmaIn f a x y z
+    same-zeros e o =
+        let s : productSign f x y ≡ minus f z = like-is (productSign f x y) (minus f z) o in
+        sym (signed-is f z b) ∙ (λ i. signed f (sym s i) (e i)) ∙ sym (rows .like-zeros u v (kind-finite f x l) (kind-finite f y h) no-product (zero-kind f z (omega arith) e) o)
+      where
+        like-is : (s t : Bool) → unlike s t ≡ false → s ≡ t
+        like-is false false e = refl
+        like-is false true e = absurd (true≢false e)
+        like-is true false e = absurd (true≢false e)
+        like-is true true e = refl
+
+    pub leaves-z : (magnitude f z ≡ 0 → against f x y z ≡ false) → z ≡ fmaIn f a x y z
+    leaves-z o =
+        order (magnitude f z) 0
+        (λ q. let e : magnitude f z ≡ 0 = omega arith in same-zeros e (o e))
+        (λ q. let (w, e) = some-kind f z q k in sym (rows .zero-product u v w b (kind-finite f x l) (kind-finite f y h) no-product e))
+
 -- ---- every answer is a pattern
-module _ {p e : ℕ} (w : Fits p e) where
+module _ {p e : ℕ} (w : Fits p e) (a : Attribute) where
   plain-infinity : (s : Bool) → Pattern (format p e) (signed (format p e) s (inf (format p e)))
   plain-infinity s = pattern-signed (format p e) s (inf (format p e)) (inf-below-top (format p e))
 
-  plus-pattern : (s : Bool) (k : Kind) (t : Bool) (l : Kind) → Pattern (format p e) (plusBy (format p e) ties-to-even s k t l)
+  plus-pattern : (s : Bool) (k : Kind) (t : Bool) (l : Kind) → Pattern (format p e) (plusBy (format p e) a s k t l)
   unfolding plusBy
   plus-pattern s nan t l = canonical-pattern (format p e)
   plus-pattern s infinite t nan = canonical-pattern (format p e)
@@ -168,8 +174,8 @@ module _ {p e : ℕ} (w : Fits p e) where
   plus-pattern s infinite t (finite v) = plain-infinity s
   plus-pattern s (finite u) t nan = canonical-pattern (format p e)
   plus-pattern s (finite u) t infinite = plain-infinity t
-  plus-pattern s (finite u) t (finite v) = answer-pattern (format p e) (w .fair) ties-to-even (cond (unlike s t) (zeroSum ties-to-even) s) (sumOf (format p e) s u t v)
+  plus-pattern s (finite u) t (finite v) = answer-pattern (format p e) (w .fair) a (cond (unlike s t) (zeroSum a) s) (sumOf (format p e) s u t v)
 
-  pub fma-pattern : (x y z : ℕ) → Pattern (format p e) (fmaOf (format p e) x y z)
-  unfolding fmaOf fmaIn
+  pub fma-pattern : (x y z : ℕ) → Pattern (format p e) (fmaIn (format p e) a x y z)
+  unfolding fmaIn
   fma-pattern x y z = plus-pattern (productSign (format p e) x y) (times-kinds (kind (format p e) x) (kind (format p e) y)) (minus (format p e) z) (kind (format p e) z)

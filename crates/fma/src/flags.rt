@@ -3,7 +3,8 @@ ghost use mathlib.Core.Path.{_≡_};
 ghost use mathlib.Core.Bool.{true, false};
 ghost use Prim.Native.Nat.{max};
 ghost use Rattle.ieee.specs.Pattern.{Pattern, kind};
-ghost use Rattle.ieee.specs.Fma.{fmaFlags, clashes, signalled};
+ghost use Rattle.ieee.specs.Round.{Attribute};
+ghost use Rattle.ieee.specs.Fma.{fmaFlagsIn, clashes, signalled};
 ghost use Rattle.fmt_fields.specs.Width.{format, Fits};
 ghost use Rattle.fmt_fields.specs.Raised.{flagsOf};
 ghost use Rattle.fma.specs.Special.{special, opposed};
@@ -71,7 +72,7 @@ fn is_opposed(frac: u32, expo: u32, x: u64, y: u64, z: u64) -> bool
 // Invalid or nothing: what is left over, a zero product, is exact.
 pub fn special_flags(frac: u32, expo: u32, x: u64, y: u64, z: u64) -> Raised
     requires { ⌜ Fits frac expo × Pattern (format frac expo) z × (special (format frac expo) x y z ≡ true) ⌝ }
-    ensures { λ r. ⌜ flagsOf r ≡ fmaFlags (format frac expo) x y z ⌝ }
+    ensures { λ r. ⌜ ((a : Attribute) → flagsOf r ≡ fmaFlagsIn (format frac expo) a x y z) ⌝ }
 {
     if any_signals(frac, expo, x, y, z) {
         return invalid_if(true);

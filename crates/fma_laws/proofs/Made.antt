@@ -12,7 +12,7 @@ use Rattle.algebra.proofs.Products.{order}
 use Rattle.algebra.proofs.Integers.{up, dn, addZ, subZ, oneZ, eqZ, magZ, magZ-fact}
 use Rattle.ieee.specs.Format.{Format, low, inf}
 use Rattle.ieee.specs.Pattern.{minus, magnitude, signed, unlike}
-use Rattle.ieee.specs.Round.{even, ties-to-even}
+use Rattle.ieee.specs.Round.{Attribute, wayOf}
 use Rattle.ieee.specs.Flags.{Flags, none}
 use Rattle.ieee.specs.Scalbn.{scaled}
 use Rattle.ieee.specs.Fma.{productSign}
@@ -28,32 +28,32 @@ use Rattle.round_wide.specs.Stuck.{stuck}
 use Rattle.round_wide.proofs.Folds.{folded-outcome, folded-none}
 use Rattle.round_wide.proofs.Stuck.{stuck-none, stuck-le}
 use Rattle.fma_laws.specs.Aligned.{productAt, thirdAt, downBy, joined, joinedSign, addedSteps, addedSign, addedExp}
-use Rattle.fma_laws.specs.Fused.{productSig, productExp, thirdSig, thirdSigOf, thirdExpOf, lowest, fusedSteps, fusedSign, roundedSum, fmaGives}
+use Rattle.fma_laws.specs.Fused.{productSig, productExp, thirdSig, thirdSigOf, thirdExpOf, lowest, fusedSteps, fusedSign, zeroIn, roundedSum, fmaGives}
 use Rattle.fma_laws.proofs.Sums.{sign-first}
 use Rattle.fma_laws.proofs.Fused.{fused-none, fused-own, joined-nothing, product-twice}
 use Rattle.fma_laws.proofs.Room.{product-small, product-some}
 
 -- ---- a sum rounded
-pub rounded-some : (f : Format) (s : Bool) (n : ℕ) (e : ℤ) → 0 < n → roundedSum f s n e ≡ outcome f ties-to-even s (scaled s n (e +ℤ pos (low f) -ℤ pos 1))
+pub rounded-some : (f : Format) (a : Attribute) (s : Bool) (n : ℕ) (e : ℤ) → 0 < n → roundedSum f a s n e ≡ outcome f a s (scaled s n (e +ℤ pos (low f) -ℤ pos 1))
 unfolding roundedSum
-rounded-some f s n e l = ap (λ b. cond b (0, none) (outcome f ties-to-even s (scaled s n (e +ℤ pos (low f) -ℤ pos 1)))) (ne-eqb n 0 (omega arith))
+rounded-some f a s n e l = ap (λ b. cond b (zeroIn f a, none) (outcome f a s (scaled s n (e +ℤ pos (low f) -ℤ pos 1)))) (ne-eqb n 0 (omega arith))
 
-pub rounded-none : (f : Format) (s : Bool) (n : ℕ) (e : ℤ) → n ≡ 0 → roundedSum f s n e ≡ (0, none)
+pub rounded-none : (f : Format) (a : Attribute) (s : Bool) (n : ℕ) (e : ℤ) → n ≡ 0 → roundedSum f a s n e ≡ (zeroIn f a, none)
 unfolding roundedSum
-rounded-none f s n e h = ap (λ m. cond (eqb m 0) (0, none) (outcome f ties-to-even s (scaled s n (e +ℤ pos (low f) -ℤ pos 1)))) h
+rounded-none f a s n e h = ap (λ m. cond (eqb m 0) (zeroIn f a, none) (outcome f a s (scaled s n (e +ℤ pos (low f) -ℤ pos 1)))) h
 
 -- by its location
-pub rounded-located : {p e : ℕ} → Fits p e → {m l : ℕ} {h b : Bool} (s : Bool) (n : ℕ) (k : ℤ) → 0 < n
+pub rounded-located : {p e : ℕ} → Fits p e → (a : Attribute) {m l : ℕ} {h b : Bool} (s : Bool) (n : ℕ) (k : ℤ) → 0 < n
     → let f = format p e in let x = stretched n (k +ℤ pos (low f) -ℤ pos 1) in
-    (m ≡ below f x) × (l ≡ location f x) × (h ≡ high f x) × (b ≡ beyond f x) → (signed f s (chosen even m l), flagsBy f even m l h b) ≡ roundedSum f s n k
-rounded-located {p} {e} w s n k some at =
+    (m ≡ below f x) × (l ≡ location f x) × (h ≡ high f x) × (b ≡ beyond f x) → (signed f s (chosen (wayOf a s) m l), flagsBy f (wayOf a s) m l h b) ≡ roundedSum f a s n k
+rounded-located {p} {e} w a s n k some at =
     let f = format p e in
-    round-is f (w .fair) ties-to-even s n (k +ℤ pos (low f) -ℤ pos 1) at ∙ sym (rounded-some f s n k some)
+    round-is f (w .fair) a s n (k +ℤ pos (low f) -ℤ pos 1) at ∙ sym (rounded-some f a s n k some)
 
 -- folded into one word
-pub rounded-folded : {p e : ℕ} → Fits p e → (s : Bool) (h l : ℕ) (n : ℤ) → h < 2 ^ 64
-    → let k = 64 - leadingZeros 64 h in roundedSum (format p e) s (stuck (h * 2 ^ 64 + l) k) (n +ℤ pos k) ≡ roundedSum (format p e) s (h * 2 ^ 64 + l) n
-rounded-folded {p} {e} w s h l n b =
+pub rounded-folded : {p e : ℕ} → Fits p e → (a : Attribute) (s : Bool) (h l : ℕ) (n : ℤ) → h < 2 ^ 64
+    → let k = 64 - leadingZeros 64 h in roundedSum (format p e) a s (stuck (h * 2 ^ 64 + l) k) (n +ℤ pos k) ≡ roundedSum (format p e) a s (h * 2 ^ 64 + l) n
+rounded-folded {p} {e} w a s h l n b =
     let f = format p e in
     let k : ℕ = 64 - leadingZeros 64 h in
     let v : ℕ = h * 2 ^ 64 + l in
@@ -63,13 +63,13 @@ rounded-folded {p} {e} w s h l n b =
     let i : ℤ = n +ℤ pos (low f) -ℤ pos 1 in
     let j : ℤ = n +ℤ pos k +ℤ pos (low f) -ℤ pos 1 in
     let moved : j ≡ i +ℤ pos k = eqZ j (i +ℤ pos k) (omega (arith, subZ (n +ℤ pos k +ℤ pos (low f)) (pos 1), addZ (n +ℤ pos k) (pos (low f)), addZ n (pos k), addZ i (pos k), subZ (n +ℤ pos (low f)) (pos 1), addZ n (pos (low f)))) in
-    rounded-some f s (stuck v k) (n +ℤ pos k) kept
-    ∙ ap (λ m. outcome f ties-to-even s (scaled s (stuck v k) m)) moved
-    ∙ sym (folded-outcome w ties-to-even s h l i b)
-    ∙ sym (rounded-some f s v n some))
+    rounded-some f a s (stuck v k) (n +ℤ pos k) kept
+    ∙ ap (λ m. outcome f a s (scaled s (stuck v k) m)) moved
+    ∙ sym (folded-outcome w a s h l i b)
+    ∙ sym (rounded-some f a s v n some))
     (λ none.
     let gone : v ≡ 0 = omega arith in
-    rounded-none f s (stuck v k) (n +ℤ pos k) (omega (arith, gone, stuck-le v k)) ∙ sym (rounded-none f s v n gone))
+    rounded-none f a s (stuck v k) (n +ℤ pos k) (omega (arith, gone, stuck-le v k)) ∙ sym (rounded-none f a s v n gone))
 
 -- its exponent, in smallest units
 pub units-small : {p e : ℕ} → Fits p e → (n : ℤ) → mag n < 2 ^ 19 + 2 ^ 18 + 2 ^ 7 → mag (n +ℤ pos (low (format p e)) -ℤ pos 1) < 2 ^ 20 - 64
@@ -92,7 +92,7 @@ nothing-comes l (pos n) = omega arith
 nothing-comes l (negsuc n) = let h = stuck-le 0 (suc n) in omega arith
 
 -- ---- x and y are numbers that are not zero, and z is a number
-module _ {p e : ℕ} (w : Fits p e) (l : ℕ) (two : 2 ≤ p) (room : 2 + p ≤ l) (x y z : ℕ) (ox : Ordinary (format p e) x) (oy : Ordinary (format p e) y) where
+module _ {p e : ℕ} (w : Fits p e) (a : Attribute) (l : ℕ) (two : 2 ≤ p) (room : 2 + p ≤ l) (x y z : ℕ) (ox : Ordinary (format p e) x) (oy : Ordinary (format p e) y) where
   abbrev f : Format
   f = format p e
 
@@ -105,37 +105,37 @@ module _ {p e : ℕ} (w : Fits p e) (l : ℕ) (two : 2 ≤ p) (room : 2 + p ≤ 
   abbrev S : Bool
   S = productSign f x y
 
-  some-added : Ordinary f z → roundedSum f (fusedSign f l x y z) (fusedSteps f l x y z) (addedExp l E (expOf f z)) ≡ fmaGives f x y z
+  some-added : Ordinary f z → roundedSum f a (fusedSign f l x y z) (fusedSteps f l x y z) (addedExp l E (expOf f z)) ≡ fmaGives f a x y z
   some-added oz =
       order 1 (fusedSteps f l x y z)
-      (λ h. rounded-some f _ _ _ h ∙ sym (fused-own f (w .fair) l x y z ox oy oz two room h))
-      (λ h. let none : fusedSteps f l x y z ≡ 0 = omega arith in rounded-none f _ _ _ none ∙ sym (fused-none f (w .fair) l x y z ox oy oz none))
+      (λ h. rounded-some f a _ _ _ h ∙ sym (fused-own f (w .fair) a l x y z ox oy oz two room h))
+      (λ h. let none : fusedSteps f l x y z ≡ 0 = omega arith in rounded-none f a _ _ _ none ∙ sym (fused-none f (w .fair) a l x y z ox oy oz none))
 
-  zero-added : magnitude f z ≡ 0 → roundedSum f (addedSign l P E S 0 lowest (minus f z)) (addedSteps l P E S 0 lowest (minus f z)) (addedExp l E lowest) ≡ fmaGives f x y z
+  zero-added : magnitude f z ≡ 0 → roundedSum f a (addedSign l P E S 0 lowest (minus f z)) (addedSteps l P E S 0 lowest (minus f z)) (addedExp l E lowest) ≡ fmaGives f a x y z
   zero-added h =
       let d = lowest -ℤ E in
       let under : up d ≡ 0 = omega (arith, subZ lowest E, oneZ d, oneZ E, magZ-fact E (product-small w x y ox oy)) in
-      let (a, b) = product-stays l P d under in
+      let (stays, b) = product-stays l P d under in
       let n = nothing-comes l d in
-      (λ i. roundedSum f (joinedSign S (minus f z) (a i) (n i)) (joined (unlike S (minus f z)) (a i) (n i)) (E +ℤ pos (b i)))
-      ∙ (λ i. roundedSum f (sign-first S (minus f z) P 0 (omega arith) i) (joined-nothing (unlike S (minus f z)) P i) (E +ℤ pos 0))
-      ∙ rounded-some f S P (E +ℤ pos 0) (product-some f (w .fair) x y ox oy)
-      ∙ sym (product-twice f (w .fair) x y z ox oy h)
+      (λ i. roundedSum f a (joinedSign S (minus f z) (stays i) (n i)) (joined (unlike S (minus f z)) (stays i) (n i)) (E +ℤ pos (b i)))
+      ∙ (λ i. roundedSum f a (sign-first S (minus f z) P 0 (omega arith) i) (joined-nothing (unlike S (minus f z)) P i) (E +ℤ pos 0))
+      ∙ rounded-some f a S P (E +ℤ pos 0) (product-some f (w .fair) x y ox oy)
+      ∙ sym (product-twice f (w .fair) a x y z ox oy h)
 
-  added : magnitude f z < inf f → roundedSum f (addedSign l P E S (thirdSigOf f z) (thirdExpOf f z) (minus f z)) (addedSteps l P E S (thirdSigOf f z) (thirdExpOf f z) (minus f z)) (addedExp l E (thirdExpOf f z)) ≡ fmaGives f x y z
+  added : magnitude f z < inf f → roundedSum f a (addedSign l P E S (thirdSigOf f z) (thirdExpOf f z) (minus f z)) (addedSteps l P E S (thirdSigOf f z) (thirdExpOf f z) (minus f z)) (addedExp l E (thirdExpOf f z)) ≡ fmaGives f a x y z
   added h = by-zero (eqb (magnitude f z) 0) refl
     where
       by-zero : (b : Bool) → eqb (magnitude f z) 0 ≡ b
           → let q = cond b 0 (thirdSig f z) in let g = cond b lowest (expOf f z) in
-          roundedSum f (addedSign l P E S q g (minus f z)) (addedSteps l P E S q g (minus f z)) (addedExp l E g) ≡ fmaGives f x y z
+          roundedSum f a (addedSign l P E S q g (minus f z)) (addedSteps l P E S q g (minus f z)) (addedExp l E g) ≡ fmaGives f a x y z
       by-zero true i = zero-added (eqb-true (magnitude f z) 0 i)
       by-zero false i = let t = eqb-false (magnitude f z) 0 i in some-added (record { least = omega (arith, t); most = h })
 
   -- the parts, each as its function gives it
-  pub rounded-sum-is : magnitude f z < inf f → {a b sum : ℕ} {r : ℕ × Flags} {c d m : ℤ} {s t u : Bool} → (a ≡ P) × (c ≡ E) × (s ≡ S) → (b ≡ thirdSigOf f z) × (d ≡ thirdExpOf f z) × (t ≡ minus f z)
-      → (sum ≡ addedSteps l a c s b d t) × (u ≡ addedSign l a c s b d t) × (m ≡ addedExp l c d) → r ≡ roundedSum f u sum m → r ≡ fmaGives f x y z
+  pub rounded-sum-is : magnitude f z < inf f → {g b sum : ℕ} {r : ℕ × Flags} {c d m : ℤ} {s t u : Bool} → (g ≡ P) × (c ≡ E) × (s ≡ S) → (b ≡ thirdSigOf f z) × (d ≡ thirdExpOf f z) × (t ≡ minus f z)
+      → (sum ≡ addedSteps l g c s b d t) × (u ≡ addedSign l g c s b d t) × (m ≡ addedExp l c d) → r ≡ roundedSum f a u sum m → r ≡ fmaGives f a x y z
   rounded-sum-is h (i, j, k) (i', j', k') (g, v, o) q =
       q
-      ∙ (λ n. roundedSum f (v n) (g n) (o n))
-      ∙ (λ n. roundedSum f (addedSign l (i n) (j n) (k n) (i' n) (j' n) (k' n)) (addedSteps l (i n) (j n) (k n) (i' n) (j' n) (k' n)) (addedExp l (j n) (j' n)))
+      ∙ (λ n. roundedSum f a (v n) (g n) (o n))
+      ∙ (λ n. roundedSum f a (addedSign l (i n) (j n) (k n) (i' n) (j' n) (k' n)) (addedSteps l (i n) (j n) (k n) (i' n) (j' n) (k' n)) (addedExp l (j n) (j' n)))
       ∙ added h

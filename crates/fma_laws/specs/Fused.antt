@@ -4,11 +4,11 @@ use mathlib.Core.Bool.{Bool, cond}
 use lib.Dec.{eqb}
 use lib.IntN.{ℤ, pos, negsuc, _+ℤ_, _-ℤ_}
 use Rattle.ieee.specs.Format.{Format, low}
-use Rattle.ieee.specs.Pattern.{minus, magnitude}
-use Rattle.ieee.specs.Round.{answer, ties-to-even}
+use Rattle.ieee.specs.Pattern.{minus, magnitude, signed}
+use Rattle.ieee.specs.Round.{Attribute, answer}
 use Rattle.ieee.specs.Scalbn.{scaled}
 use Rattle.ieee.specs.Flags.{Flags, none, raised}
-use Rattle.ieee.specs.Fma.{fmaOf, fmaFlags, productSign}
+use Rattle.ieee.specs.Fma.{fmaIn, fmaFlagsIn, zeroSum, productSign}
 use Rattle.round_step.specs.Outcome.{outcome}
 use Rattle.fmt_decode.specs.Significand.{sigOf, expOf}
 use Rattle.fma_laws.specs.Aligned.{addedSteps, addedSign, addedExp}
@@ -48,11 +48,15 @@ fusedSign f l x y z = addedSign l (productSig f x y) (productExp f x y) (product
 abbrev pub fusedExp : Format → ℕ → ℕ → ℕ → ℕ → ℤ
 fusedExp f l x y z = addedExp l (productExp f x y) (expOf f z) +ℤ pos (low f) -ℤ pos 1
 
--- a sum rounded once, where a sum of no steps is +0
-unfoldable pub roundedSum : Format → Bool → ℕ → ℤ → ℕ × Flags
+-- the zero of a sum of terms that cancel: -0 when rounding toward negative, otherwise +0
+abbrev pub zeroIn : Format → Attribute → ℕ
+zeroIn f a = signed f (zeroSum a) 0
+
+-- a sum rounded once, where a sum of no steps is that zero
+unfoldable pub roundedSum : Format → Attribute → Bool → ℕ → ℤ → ℕ × Flags
 unfolding answer raised
-roundedSum f s n e = cond (eqb n 0) (0, none) (outcome f ties-to-even s (scaled s n (e +ℤ pos (low f) -ℤ pos 1)))
+roundedSum f a s n e = cond (eqb n 0) (zeroIn f a, none) (outcome f a s (scaled s n (e +ℤ pos (low f) -ℤ pos 1)))
 
 -- what it is to be: the value and the flags of x times y plus z
-abbrev pub fmaGives : Format → ℕ → ℕ → ℕ → ℕ × Flags
-fmaGives f x y z = (fmaOf f x y z, fmaFlags f x y z)
+abbrev pub fmaGives : Format → Attribute → ℕ → ℕ → ℕ → ℕ × Flags
+fmaGives f a x y z = (fmaIn f a x y z, fmaFlagsIn f a x y z)

@@ -27,6 +27,14 @@ noAttribute = record { number = 10; value = 0; flags = none }
 abbrev pub attributes : List Attribute
 attributes = ties-to-even ∷ toward-zero ∷ toward-negative ∷ toward-positive ∷ ties-to-away ∷ []
 
+-- the number of each
+abbrev pub attributeNumber : Attribute → ℕ
+attributeNumber ties-to-even = 0
+attributeNumber toward-zero = 1
+attributeNumber toward-negative = 2
+attributeNumber toward-positive = 3
+attributeNumber ties-to-away = 4
+
 -- what a call gives under the nth of them
 abbrev pub numbered : List Attribute → ℕ → (Attribute → Rounded) → Rounded
 numbered [] n call = noAttribute

@@ -8,6 +8,7 @@ ghost use Rattle.ieee.specs.Lists.{listOf};
 ghost use Rattle.ieee.specs.Reduction.{reduceOf};
 ghost use Rattle.ieee.specs.Refusal.{numberOf, valueOf};
 ghost use Rattle.ieee.specs.Remquo.{remquoOf, quotientOf};
+ghost use Rattle.ieee.specs.Rounded.{sqrtRounded, fmaRounded, scalbnRounded};
 ghost use Rattle.ieee.specs.Scalbn.{scalbnOf, scalbnFlags};
 ghost use Rattle.ieee.specs.Sqrt.{sqrtOf, sqrtFlags};
 ghost use Rattle.ieee.specs.Whole.{truncOf, truncFlags, floorOf, floorFlags};
@@ -18,6 +19,14 @@ pub use flagged::floor32_flags;
 pub use flagged::floor64_flags;
 pub use flagged::fma32_flags;
 pub use flagged::fma64_flags;
+pub use flagged::rounded::Rounded32;
+pub use flagged::rounded::Rounded64;
+pub use flagged::rounded::fma32_rounded;
+pub use flagged::rounded::fma64_rounded;
+pub use flagged::rounded::scalbn32_rounded;
+pub use flagged::rounded::scalbn64_rounded;
+pub use flagged::rounded::sqrt32_rounded;
+pub use flagged::rounded::sqrt64_rounded;
 pub use flagged::scalbn32_flags;
 pub use flagged::scalbn64_flags;
 pub use flagged::sqrt32_flags;
@@ -134,6 +143,24 @@ pub extern "C" fn pk_scalbn64_flags(x: u64, n: i32, flags: &mut u32) -> u64
 }
 
 #[no_mangle]
+pub extern "C" fn pk_scalbn64_rounded(
+    attribute: u32,
+    x: u64,
+    n: i32,
+    value: &mut u64,
+    flags: &mut u32,
+) -> u32
+    ensures { λ r. ⌜ (r ≡ scalbnRounded b64 attribute x n .number) × (now (value .exit) ≡ scalbnRounded b64 attribute x n .value)
+        × (now (flags .exit) ≡ flagWord (scalbnRounded b64 attribute x n .flags)) ⌝ }
+{
+    let a = scalbn::rounded::scalbn64_rounded(attribute, x, n);
+    let raised = a.flags;
+    *flags = word_of(raised);
+    *value = a.value;
+    a.refusal
+}
+
+#[no_mangle]
 pub extern "C" fn pk_scalbn32(x: u32, n: i32) -> u32
     ensures { λ r. ⌜ r ≡ scalbnOf b32 x n ⌝ }
 {
@@ -148,6 +175,24 @@ pub extern "C" fn pk_scalbn32_flags(x: u32, n: i32, flags: &mut u32) -> u32
     let raised = a.flags;
     *flags = word_of(raised);
     a.value
+}
+
+#[no_mangle]
+pub extern "C" fn pk_scalbn32_rounded(
+    attribute: u32,
+    x: u32,
+    n: i32,
+    value: &mut u32,
+    flags: &mut u32,
+) -> u32
+    ensures { λ r. ⌜ (r ≡ scalbnRounded b32 attribute x n .number) × (now (value .exit) ≡ scalbnRounded b32 attribute x n .value)
+        × (now (flags .exit) ≡ flagWord (scalbnRounded b32 attribute x n .flags)) ⌝ }
+{
+    let a = scalbn::rounded::scalbn32_rounded(attribute, x, n);
+    let raised = a.flags;
+    *flags = word_of(raised);
+    *value = a.value;
+    a.refusal
 }
 
 #[no_mangle]
@@ -210,6 +255,18 @@ pub extern "C" fn pk_sqrt64_flags(x: u64, flags: &mut u32) -> u64
 }
 
 #[no_mangle]
+pub extern "C" fn pk_sqrt64_rounded(attribute: u32, x: u64, value: &mut u64, flags: &mut u32) -> u32
+    ensures { λ r. ⌜ (r ≡ sqrtRounded b64 attribute x .number) × (now (value .exit) ≡ sqrtRounded b64 attribute x .value)
+        × (now (flags .exit) ≡ flagWord (sqrtRounded b64 attribute x .flags)) ⌝ }
+{
+    let a = sqrt::sqrt::sqrt64_rounded(attribute, x);
+    let raised = a.flags;
+    *flags = word_of(raised);
+    *value = a.value;
+    a.refusal
+}
+
+#[no_mangle]
 pub extern "C" fn pk_sqrt32(x: u32) -> u32
     ensures { λ r. ⌜ r ≡ sqrtOf b32 x ⌝ }
 {
@@ -224,6 +281,18 @@ pub extern "C" fn pk_sqrt32_flags(x: u32, flags: &mut u32) -> u32
     let raised = a.flags;
     *flags = word_of(raised);
     a.value
+}
+
+#[no_mangle]
+pub extern "C" fn pk_sqrt32_rounded(attribute: u32, x: u32, value: &mut u32, flags: &mut u32) -> u32
+    ensures { λ r. ⌜ (r ≡ sqrtRounded b32 attribute x .number) × (now (value .exit) ≡ sqrtRounded b32 attribute x .value)
+        × (now (flags .exit) ≡ flagWord (sqrtRounded b32 attribute x .flags)) ⌝ }
+{
+    let a = sqrt::sqrt::sqrt32_rounded(attribute, x);
+    let raised = a.flags;
+    *flags = word_of(raised);
+    *value = a.value;
+    a.refusal
 }
 
 #[no_mangle]
@@ -244,6 +313,25 @@ pub extern "C" fn pk_fma64_flags(x: u64, y: u64, z: u64, flags: &mut u32) -> u64
 }
 
 #[no_mangle]
+pub extern "C" fn pk_fma64_rounded(
+    attribute: u32,
+    x: u64,
+    y: u64,
+    z: u64,
+    value: &mut u64,
+    flags: &mut u32,
+) -> u32
+    ensures { λ r. ⌜ (r ≡ fmaRounded b64 attribute x y z .number) × (now (value .exit) ≡ fmaRounded b64 attribute x y z .value)
+        × (now (flags .exit) ≡ flagWord (fmaRounded b64 attribute x y z .flags)) ⌝ }
+{
+    let a = fma::rounded::fma64_rounded(attribute, x, y, z);
+    let raised = a.flags;
+    *flags = word_of(raised);
+    *value = a.value;
+    a.refusal
+}
+
+#[no_mangle]
 pub extern "C" fn pk_fma32(x: u32, y: u32, z: u32) -> u32
     ensures { λ r. ⌜ r ≡ fmaOf b32 x y z ⌝ }
 {
@@ -258,6 +346,25 @@ pub extern "C" fn pk_fma32_flags(x: u32, y: u32, z: u32, flags: &mut u32) -> u32
     let raised = a.flags;
     *flags = word_of(raised);
     a.value
+}
+
+#[no_mangle]
+pub extern "C" fn pk_fma32_rounded(
+    attribute: u32,
+    x: u32,
+    y: u32,
+    z: u32,
+    value: &mut u32,
+    flags: &mut u32,
+) -> u32
+    ensures { λ r. ⌜ (r ≡ fmaRounded b32 attribute x y z .number) × (now (value .exit) ≡ fmaRounded b32 attribute x y z .value)
+        × (now (flags .exit) ≡ flagWord (fmaRounded b32 attribute x y z .flags)) ⌝ }
+{
+    let a = fma::rounded::fma32_rounded(attribute, x, y, z);
+    let raised = a.flags;
+    *flags = word_of(raised);
+    *value = a.value;
+    a.refusal
 }
 
 #[no_mangle]

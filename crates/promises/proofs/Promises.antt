@@ -7,8 +7,8 @@
 --   code: as THEOREMS   it says more of the definitions that those theorems settle, and so of their functions.
 --   code: none, WHY     it speaks of no function.
 -- The first two may stand in one line, names first.
-use Prim.Native.Nat.{ℕ, suc, _+_, _-_, _*_, _^_, _<_}
-use mathlib.Core.Path.{_≡_}
+use Prim.Native.Nat.{ℕ, suc, _+_, _-_, _*_, _^_, _≤_, _<_}
+use mathlib.Core.Path.{_≡_, sym, ap, _∙_, subst}
 use mathlib.Core.Logic.{_↔_}
 use mathlib.Core.Bool.{Bool, true, false}
 use mathlib.Core.List.{List}
@@ -27,14 +27,14 @@ use Rattle.ieee.specs.FlagsRule.{Exactly, FlagsRule, Clean, Unbounded}
 use Rattle.ieee.specs.FlagRows.{SqrtFlagRows, FmaFlagRows, ScalbnFlagRows, WholeFlagRows}
 use Rattle.ieee.specs.Invalid.{SqrtInvalid, FmaInvalid}
 use Rattle.ieee.specs.Band.{Band}
-use Rattle.ieee.specs.Rounded.{sqrtRounded, fmaRounded, scalbnRounded, ByNumber}
+use Rattle.ieee.specs.Rounded.{Rounded, answered, attributeNumber, sqrtRounded, fmaRounded, scalbnRounded, ByNumber}
 use Rattle.ieee.specs.Sqrt.{sqrtOf, sqrtFlags, sqrtIn, sqrtFlagsIn, exactSqrt}
 use Rattle.ieee.specs.SqrtRows.{SqrtRows}
 use Rattle.ieee.specs.Fma.{fmaOf, fmaFlags, fmaIn, fmaFlagsIn, exactFma, zeroSign}
 use Rattle.ieee.specs.FmaRows.{FmaRows}
 use Rattle.ieee.specs.Scalbn.{scalbnOf, scalbnFlags, scalbnIn, scalbnFlagsIn, exactScalbn}
 use Rattle.ieee.specs.ScalbnRows.{ScalbnRows}
-use Rattle.ieee.specs.Whole.{truncOf, truncFlags, floorOf, floorFlags, wholeFlagsIn}
+use Rattle.ieee.specs.Whole.{truncOf, truncFlags, floorOf, floorFlags}
 use Rattle.ieee.specs.WholeRule.{Truncated, Floored, WholeRows, FloorRows}
 use Rattle.ieee.specs.Fmod.{fmodOf}
 use Rattle.ieee.specs.FmodRule.{Left, FmodRows}
@@ -64,7 +64,7 @@ use Rattle.ieee.proofs.Fmas.{fma-once, fma-met, fma-rows}
 use Rattle.ieee.proofs.FmaFlags.{fma-flags-rule, fma-flag-rows, fma-clean, fma-band}
 use Rattle.ieee.proofs.Scalbns.{scalbn-once, scalbn-met, scalbn-rows}
 use Rattle.ieee.proofs.ScalbnFlags.{scalbn-flags-rule, scalbn-flag-rows, scalbn-clean, scalbn-band}
-use Rattle.ieee.proofs.RoundedCalls.{sqrt-by-number, fma-by-number, scalbn-by-number}
+use Rattle.ieee.proofs.RoundedCalls.{sqrt-by-number, fma-by-number, scalbn-by-number, sqrt-under, fma-under, scalbn-under, ten}
 use Rattle.ieee.proofs.Wholes.{trunc-is, trunc-only, trunc-rows, floor-is, floor-only, floor-rows}
 use Rattle.ieee.proofs.WholeFlags.{whole-clean, trunc-flag-rows, floor-flag-rows}
 use Rattle.ieee.proofs.Invalids.{sqrt-invalid, fma-invalid, scalbn-invalid, whole-invalid}
@@ -405,116 +405,169 @@ pub trunc-flags-are-settled : (f : Format) → Fair f → (o : ℕ → ℕ) (F :
     → ((x u : ℕ) → kind f x ≡ finite u → Truncated f x (o x)) → (x : ℕ) → (o x ≡ truncOf f x) × (F x ≡ truncFlags f x)
 trunc-flags-are-settled = trunc-raises-settled
 
--- ======== Under every attribute of IEEE 754: the exact value rounded once by the attribute's rule, with its flags. These are definitions: the functions give nearest even.
--- code: none, no function takes an attribute
--- the five attributes have numbers, and every other number is refused with 10, the value zero and no flag
-pub attributes-go-by-number : (f : Format) (x y z : ℕ) (n : ℤ)
-    → ByNumber (λ a. sqrtIn f a x) (λ a. sqrtFlagsIn f a x) (λ k. sqrtRounded f k x)
-    × ByNumber (λ a. fmaIn f a x y z) (λ a. fmaFlagsIn f a x y z) (λ k. fmaRounded f k x y z)
-    × ByNumber (λ a. scalbnIn f a x n) (λ a. scalbnFlagsIn f a x n) (λ k. scalbnRounded f k x n)
-attributes-go-by-number f x y z n = (sqrt-by-number f x, fma-by-number f x y z, scalbn-by-number f x n)
+-- ======== Under each of the five attributes of IEEE 754 sqrt, fma and scalbn are the exact value rounded once by that attribute's rule, with its flags; down and up are the tightest band that holds it.
+-- code: sqrt64_rounded, sqrt32_rounded, pk_sqrt64_rounded, pk_sqrt32_rounded
+-- the attributes go by number, 0 to 4: the value and the flags under that attribute; any other number gives 10, zero and no flag
+pub sqrt-goes-by-number : (f : Format) (x : ℕ) → ByNumber (λ a. sqrtIn f a x) (λ a. sqrtFlagsIn f a x) (λ n. sqrtRounded f n x)
+sqrt-goes-by-number = sqrt-by-number
 
--- code: none, no function takes an attribute
+-- code: fma64_rounded, fma32_rounded, pk_fma64_rounded, pk_fma32_rounded
+pub fma-goes-by-number : (f : Format) (x y z : ℕ) → ByNumber (λ a. fmaIn f a x y z) (λ a. fmaFlagsIn f a x y z) (λ n. fmaRounded f n x y z)
+fma-goes-by-number = fma-by-number
+
+-- code: scalbn64_rounded, scalbn32_rounded, pk_scalbn64_rounded, pk_scalbn32_rounded
+pub scalbn-goes-by-number : (f : Format) (x : ℕ) (k : ℤ) → ByNumber (λ a. scalbnIn f a x k) (λ a. scalbnFlagsIn f a x k) (λ n. scalbnRounded f n x k)
+scalbn-goes-by-number = scalbn-by-number
+
+-- code: as sqrt-goes-by-number, fma-goes-by-number, scalbn-goes-by-number
+-- before all else: refused with 10 exactly where no attribute has the number, whatever the operands; otherwise done
+pub ten-refuses-no-attribute : (f : Format) (n x y z : ℕ) (k : ℤ)
+    → ((sqrtRounded f n x .number ≡ 10) ↔ (5 ≤ n)) × ((sqrtRounded f n x .number ≡ 0) ↔ (n < 5))
+    × ((fmaRounded f n x y z .number ≡ 10) ↔ (5 ≤ n)) × ((fmaRounded f n x y z .number ≡ 0) ↔ (n < 5))
+    × ((scalbnRounded f n x k .number ≡ 10) ↔ (5 ≤ n)) × ((scalbnRounded f n x k .number ≡ 0) ↔ (n < 5))
+ten-refuses-no-attribute f n x y z k =
+    let (a, b) = ten (sqrt-by-number f x) n in
+    let (c, d) = ten (fma-by-number f x y z) n in
+    let (e, g) = ten (scalbn-by-number f x k) n in
+    (a, b, c, d, e, g)
+
+-- code: as sqrt-goes-by-number, fma-goes-by-number, scalbn-goes-by-number
+-- under nearest even a call gives what the plain call gives, with the flags that it has
+pub nearest-even-is-the-plain-call : (f : Format) (x y z : ℕ) (k : ℤ)
+    → (sqrtRounded f 0 x ≡ answered (sqrtOf f x) (sqrtFlags f x)) × (fmaRounded f 0 x y z ≡ answered (fmaOf f x y z) (fmaFlags f x y z))
+    × (scalbnRounded f 0 x k ≡ answered (scalbnOf f x k) (scalbnFlags f x k))
+unfolding sqrtOf sqrtFlags fmaOf fmaFlags scalbnOf scalbnFlags
+nearest-even-is-the-plain-call f x y z k = (sqrt-under f ties-to-even x, fma-under f ties-to-even x y z, scalbn-under f ties-to-even x k)
+
+-- code: as sqrt-goes-by-number
 -- for finite operands whose answer is not a NaN: the rule of the attribute, which one pattern meets, and the rule of its flags, which one record of flags meets;
 -- inexact exactly when the answer is not the exact value, an infinity never being it
 pub sqrt-by-attribute : (f : Format) → Fair f → (a : Attribute) (x u : ℕ) → kind f x ≡ finite u → (minus f x ≡ true → u ≡ 0)
-    → Only (RuleIn f a (minus f x) (exactSqrt f x)) (sqrtIn f a x) × OnlyFlags (FlagsRule f a (minus f x) (exactSqrt f x) (sqrtIn f a x)) (sqrtFlagsIn f a x)
+    → let r = sqrtRounded f (attributeNumber a) x in
+    Only (RuleIn f a (minus f x) (exactSqrt f x)) (r .value) × OnlyFlags (FlagsRule f a (minus f x) (exactSqrt f x) (r .value)) (r .flags)
 sqrt-by-attribute f g a x u h z =
     let s = minus f x in
     let v = exactSqrt f x in
     let r = sqrtIn f a x in
     let m = sqrt-met f g a x u h z in
     let e = sqrt-flags-rule f g a x u h z in
+    subst (λ c. Only (RuleIn f a s v) (c .value) × OnlyFlags (FlagsRule f a s v (c .value)) (c .flags)) (sym (sqrt-under f a x))
     ((m, λ q b. answer-met-unique f g a s v q r b m), (e, λ F b. rule-one f a s v r F (sqrtFlagsIn f a x) b e))
 
--- code: none, no function takes an attribute
+-- code: as fma-goes-by-number
 pub fma-by-attribute : (f : Format) → Fair f → (a : Attribute) (x y z u v w : ℕ) → kind f x ≡ finite u → kind f y ≡ finite v → kind f z ≡ finite w
-    → Only (RuleIn f a (zeroSign f a x y z) (exactFma f x y z)) (fmaIn f a x y z) × OnlyFlags (FlagsRule f a (zeroSign f a x y z) (exactFma f x y z) (fmaIn f a x y z)) (fmaFlagsIn f a x y z)
+    → let r = fmaRounded f (attributeNumber a) x y z in
+    Only (RuleIn f a (zeroSign f a x y z) (exactFma f x y z)) (r .value) × OnlyFlags (FlagsRule f a (zeroSign f a x y z) (exactFma f x y z) (r .value)) (r .flags)
 fma-by-attribute f g a x y z u v w h k l =
     let s = zeroSign f a x y z in
     let t = exactFma f x y z in
     let r = fmaIn f a x y z in
     let m = fma-met f g a x y z u v w h k l in
     let e = fma-flags-rule f g a x y z u v w h k l in
+    subst (λ c. Only (RuleIn f a s t) (c .value) × OnlyFlags (FlagsRule f a s t (c .value)) (c .flags)) (sym (fma-under f a x y z))
     ((m, λ q b. answer-met-unique f g a s t q r b m), (e, λ F b. rule-one f a s t r F (fmaFlagsIn f a x y z) b e))
 
--- code: none, no function takes an attribute
+-- code: as scalbn-goes-by-number
 pub scalbn-by-attribute : (f : Format) → Fair f → (a : Attribute) (x u : ℕ) (n : ℤ) → kind f x ≡ finite u
-    → Only (RuleIn f a (minus f x) (exactScalbn f x n)) (scalbnIn f a x n) × OnlyFlags (FlagsRule f a (minus f x) (exactScalbn f x n) (scalbnIn f a x n)) (scalbnFlagsIn f a x n)
+    → let r = scalbnRounded f (attributeNumber a) x n in
+    Only (RuleIn f a (minus f x) (exactScalbn f x n)) (r .value) × OnlyFlags (FlagsRule f a (minus f x) (exactScalbn f x n) (r .value)) (r .flags)
 scalbn-by-attribute f g a x u n h =
     let s = minus f x in
     let v = exactScalbn f x n in
     let r = scalbnIn f a x n in
     let m = scalbn-met f g a x u n h in
     let e = scalbn-flags-rule f g a x u n h in
+    subst (λ c. Only (RuleIn f a s v) (c .value) × OnlyFlags (FlagsRule f a s v (c .value)) (c .flags)) (sym (scalbn-under f a x n))
     ((m, λ q b. answer-met-unique f g a s v q r b m), (e, λ F b. rule-one f a s v r F (scalbnFlagsIn f a x n) b e))
 
--- code: none, no function takes an attribute
--- the values' rows of NaNs, infinities and zeros hold under every attribute; a zero sum of unlike signs is -0 when rounding down, and +0 under the others
+-- code: as sqrt-goes-by-number, fma-goes-by-number, scalbn-goes-by-number
+-- the rows of NaNs, infinities and zeros hold under every attribute; a zero sum of unlike signs is -0 when rounding down, and +0 under the others
 pub rows-by-attribute : (f : Format) → Fair f → (a : Attribute) (x y z : ℕ) (n : ℤ)
-    → SqrtRows f (sqrtIn f a) × FmaRows f a x y z (fmaIn f a x y z) × ScalbnRows f x n (scalbnIn f a x n)
-rows-by-attribute f g a x y z n = (sqrt-rows f a, fma-rows f a x y z, scalbn-rows f g a x n)
+    → SqrtRows f (λ w. sqrtRounded f (attributeNumber a) w .value) × FmaRows f a x y z (fmaRounded f (attributeNumber a) x y z .value) × ScalbnRows f x n (scalbnRounded f (attributeNumber a) x n .value)
+rows-by-attribute f g a x y z n = (
+  subst (SqrtRows f) (λ i w. sym (sqrt-under f a w) i .value) (sqrt-rows f a),
+  subst (λ c. FmaRows f a x y z (c .value)) (sym (fma-under f a x y z)) (fma-rows f a x y z),
+  subst (λ c. ScalbnRows f x n (c .value)) (sym (scalbn-under f a x n)) (scalbn-rows f g a x n),
+)
 
--- code: none, no function takes an attribute
+-- code: as sqrt-goes-by-number, fma-goes-by-number, scalbn-goes-by-number
 -- and so do those of the flags
 pub flag-rows-by-attribute : (f : Format) → Fair f → (a : Attribute) (x y z : ℕ) (n : ℤ)
-    → SqrtFlagRows f (sqrtFlagsIn f a) × FmaFlagRows f x y z (fmaFlagsIn f a x y z) × ScalbnFlagRows f x (scalbnFlagsIn f a x n)
-flag-rows-by-attribute f g a x y z n = (sqrt-flag-rows f g a, fma-flag-rows f a x y z, scalbn-flag-rows f a x n)
+    → SqrtFlagRows f (λ w. sqrtRounded f (attributeNumber a) w .flags) × FmaFlagRows f x y z (fmaRounded f (attributeNumber a) x y z .flags) × ScalbnFlagRows f x (scalbnRounded f (attributeNumber a) x n .flags)
+flag-rows-by-attribute f g a x y z n = (
+  subst (SqrtFlagRows f) (λ i w. sym (sqrt-under f a w) i .flags) (sqrt-flag-rows f g a),
+  subst (λ c. FmaFlagRows f x y z (c .flags)) (sym (fma-under f a x y z)) (fma-flag-rows f a x y z),
+  subst (λ c. ScalbnFlagRows f x (c .flags)) (sym (scalbn-under f a x n)) (scalbn-flag-rows f a x n),
+)
 
--- code: none, no function takes an attribute
--- nothing is left open here either
+-- code: as sqrt-goes-by-number
+-- nothing is left open here either: whatever meets the rows, and for numbers the rules, is what the call gives
 pub sqrt-settled-by-attribute : (f : Format) → Fair f → (a : Attribute) (o : ℕ → ℕ) (F : ℕ → Flags) → SqrtRows f o → SqrtFlagRows f F
     → ((x u : ℕ) → kind f x ≡ finite u → (minus f x ≡ true → u ≡ 0) → RuleIn f a (minus f x) (exactSqrt f x) (o x) × FlagsRule f a (minus f x) (exactSqrt f x) (o x) (F x))
-    → (x : ℕ) → (o x ≡ sqrtIn f a x) × (F x ≡ sqrtFlagsIn f a x)
-sqrt-settled-by-attribute = sqrt-raises-settled
+    → (x : ℕ) → sqrtRounded f (attributeNumber a) x ≡ answered (o x) (F x)
+sqrt-settled-by-attribute f g a o F p q r x = let (v, w) = sqrt-raises-settled f g a o F p q r x in sqrt-under f a x ∙ (λ i. answered (sym v i) (sym w i))
 
--- code: none, no function takes an attribute
+-- code: as fma-goes-by-number
 pub fma-settled-by-attribute : (f : Format) → Fair f → (a : Attribute) (x y z r : ℕ) (F : Flags) → FmaRows f a x y z r → FmaFlagRows f x y z F
     → ((u v w : ℕ) → kind f x ≡ finite u → kind f y ≡ finite v → kind f z ≡ finite w
     → RuleIn f a (zeroSign f a x y z) (exactFma f x y z) r × FlagsRule f a (zeroSign f a x y z) (exactFma f x y z) r F)
-    → Pattern f z → (r ≡ fmaIn f a x y z) × (F ≡ fmaFlagsIn f a x y z)
-fma-settled-by-attribute = fma-raises-settled
+    → Pattern f z → fmaRounded f (attributeNumber a) x y z ≡ answered r F
+fma-settled-by-attribute f g a x y z r F p q h b = let (v, w) = fma-raises-settled f g a x y z r F p q h b in fma-under f a x y z ∙ (λ i. answered (sym v i) (sym w i))
 
--- code: none, no function takes an attribute
+-- code: as scalbn-goes-by-number
 pub scalbn-settled-by-attribute : (f : Format) → Fair f → (a : Attribute) (x : ℕ) (n : ℤ) (r : ℕ) (F : Flags) → ScalbnRows f x n r → ScalbnFlagRows f x F
     → ((u : ℕ) → kind f x ≡ finite u → RuleIn f a (minus f x) (exactScalbn f x n) r × FlagsRule f a (minus f x) (exactScalbn f x n) r F)
-    → (r ≡ scalbnIn f a x n) × (F ≡ scalbnFlagsIn f a x n)
-scalbn-settled-by-attribute = scalbn-raises-settled
+    → scalbnRounded f (attributeNumber a) x n ≡ answered r F
+scalbn-settled-by-attribute f g a x n r F p q h = let (v, w) = scalbn-raises-settled f g a x n r F p q h in scalbn-under f a x n ∙ (λ i. answered (sym v i) (sym w i))
 
--- code: none, no function takes an attribute
+-- code: as sqrt-goes-by-number, fma-goes-by-number, scalbn-goes-by-number
 -- whatever the operands and the attribute
 pub flags-are-clean-by-attribute : (f : Format) → Fair f → (a : Attribute) (x y z : ℕ) (n : ℤ)
-    → Clean (sqrtFlagsIn f a x) × Clean (fmaFlagsIn f a x y z) × Clean (scalbnFlagsIn f a x n) × Clean (wholeFlagsIn f a x)
-flags-are-clean-by-attribute f g a x y z n = (sqrt-clean f g a x, fma-clean f g a x y z, scalbn-clean f g a x n, whole-clean f a x)
+    → Clean (sqrtRounded f (attributeNumber a) x .flags) × Clean (fmaRounded f (attributeNumber a) x y z .flags) × Clean (scalbnRounded f (attributeNumber a) x n .flags)
+flags-are-clean-by-attribute f g a x y z n = (
+  subst (λ c. Clean (c .flags)) (sym (sqrt-under f a x)) (sqrt-clean f g a x),
+  subst (λ c. Clean (c .flags)) (sym (fma-under f a x y z)) (fma-clean f g a x y z),
+  subst (λ c. Clean (c .flags)) (sym (scalbn-under f a x n)) (scalbn-clean f g a x n),
+)
 
--- code: none, no function takes an attribute
+-- code: as sqrt-goes-by-number
 -- a root never overflows; nor does it underflow, in a format with one exponent more below 1 than a fair one must have, as b16, b32 and b64 have
-pub sqrt-never-overflows : (f : Format) → Fair f → (a : Attribute) (x : ℕ) → sqrtFlagsIn f a x .overflow ≡ false
-sqrt-never-overflows = sqrt-no-overflow
+pub sqrt-never-overflows : (f : Format) → Fair f → (a : Attribute) (x : ℕ) → sqrtRounded f (attributeNumber a) x .flags .overflow ≡ false
+sqrt-never-overflows f g a x = ap (λ c. c .flags .overflow) (sqrt-under f a x) ∙ sqrt-no-overflow f g a x
 
--- code: none, no function takes an attribute
-pub sqrt-never-underflows : (f : Format) → Fair f → (a : Attribute) (x : ℕ) → f .frac + 1 < 2 ^ (f .expo - 1) → sqrtFlagsIn f a x .underflow ≡ false
-sqrt-never-underflows = sqrt-no-underflow
+-- code: as sqrt-goes-by-number
+pub sqrt-never-underflows : (f : Format) → Fair f → (a : Attribute) (x : ℕ) → f .frac + 1 < 2 ^ (f .expo - 1) → sqrtRounded f (attributeNumber a) x .flags .underflow ≡ false
+sqrt-never-underflows f g a x l = ap (λ c. c .flags .underflow) (sqrt-under f a x) ∙ sqrt-no-underflow f g a x l
 
 -- code: none, the formats
 pub standard-formats-have-room : (b16 .frac + 1 < 2 ^ (b16 .expo - 1)) × (b32 .frac + 1 < 2 ^ (b32 .expo - 1)) × (b64 .frac + 1 < 2 ^ (b64 .expo - 1))
 standard-formats-have-room = (lit< tt, lit< tt, lit< tt)
 
--- code: none, no function takes an attribute
--- tolerance bands: down and up hold the exact value between them, none is tighter, and the two are one number exactly when nothing is inexact
+-- code: as sqrt-goes-by-number
+-- tolerance bands, of the calls by the numbers of down and up: they hold the exact value between them, no number of the format lies between it and either, so that none is
+-- tighter, and the two are one number exactly when nothing is inexact
 pub sqrt-has-a-band : (f : Format) → Fair f → (x u : ℕ) → kind f x ≡ finite u → (minus f x ≡ true → u ≡ 0)
-    → Band f (exactSqrt f x) (sqrtIn f toward-negative x) (sqrtIn f toward-positive x) (sqrtFlagsIn f toward-negative x) (sqrtFlagsIn f toward-positive x)
-sqrt-has-a-band = sqrt-band
+    → let lo = sqrtRounded f (attributeNumber toward-negative) x in let hi = sqrtRounded f (attributeNumber toward-positive) x in Band f (exactSqrt f x) (lo .value) (hi .value) (lo .flags) (hi .flags)
+sqrt-has-a-band f g x u h z =
+    let lo = sqrt-under f toward-negative x in
+    let hi = sqrt-under f toward-positive x in
+    subst {A = Rounded × Rounded} (λ (l, h). Band f (exactSqrt f x) (l .value) (h .value) (l .flags) (h .flags)) (λ i. (sym lo i, sym hi i)) (sqrt-band f g x u h z)
 
--- code: none, no function takes an attribute
+-- code: as fma-goes-by-number
 pub fma-has-a-band : (f : Format) → Fair f → (x y z u v w : ℕ) → kind f x ≡ finite u → kind f y ≡ finite v → kind f z ≡ finite w
-    → Band f (exactFma f x y z) (fmaIn f toward-negative x y z) (fmaIn f toward-positive x y z) (fmaFlagsIn f toward-negative x y z) (fmaFlagsIn f toward-positive x y z)
-fma-has-a-band = fma-band
+    → let lo = fmaRounded f (attributeNumber toward-negative) x y z in let hi = fmaRounded f (attributeNumber toward-positive) x y z in Band f (exactFma f x y z) (lo .value) (hi .value) (lo .flags) (hi .flags)
+fma-has-a-band f g x y z u v w h k l =
+    let lo = fma-under f toward-negative x y z in
+    let hi = fma-under f toward-positive x y z in
+    subst {A = Rounded × Rounded} (λ (l, h). Band f (exactFma f x y z) (l .value) (h .value) (l .flags) (h .flags)) (λ i. (sym lo i, sym hi i)) (fma-band f g x y z u v w h k l)
 
--- code: none, no function takes an attribute
+-- code: as scalbn-goes-by-number
 pub scalbn-has-a-band : (f : Format) → Fair f → (x u : ℕ) (n : ℤ) → kind f x ≡ finite u
-    → Band f (exactScalbn f x n) (scalbnIn f toward-negative x n) (scalbnIn f toward-positive x n) (scalbnFlagsIn f toward-negative x n) (scalbnFlagsIn f toward-positive x n)
-scalbn-has-a-band = scalbn-band
+    → let lo = scalbnRounded f (attributeNumber toward-negative) x n in let hi = scalbnRounded f (attributeNumber toward-positive) x n in Band f (exactScalbn f x n) (lo .value) (hi .value) (lo .flags) (hi .flags)
+scalbn-has-a-band f g x u n h =
+    let lo = scalbn-under f toward-negative x n in
+    let hi = scalbn-under f toward-positive x n in
+    subst {A = Rounded × Rounded} (λ (l, h). Band f (exactScalbn f x n) (l .value) (h .value) (l .flags) (h .flags)) (λ i. (sym lo i, sym hi i)) (scalbn-band f g x u n h)
 
 -- ======== The two routes to the root, digit by digit and by libm's table, give the same.
 -- code: sqrt_digits::floor_root, sqrt_table::root53, sqrt_table::root24

@@ -1,20 +1,23 @@
 -- How a normalised significand is aligned to the format, by its exponent: four cases. Assumes nothing.
 use Prim.Native.Nat.{ℕ, suc, _+_, _-_, _*_, _/_, _%_, _^_, _≤_, _<_}
-use mathlib.Core.Path.{_≡_, refl, sym, _∙_}
+use mathlib.Core.Path.{_≡_, refl, sym, ap, _∙_}
 use mathlib.Core.Bool.{true, false}
 use native.Mathlib.Omega.{arith}
-use lib.Pow.{pow-pos, pow-mono}
+use lib.Pow.{pow-add, pow-pos, pow-mono}
 use lib.IntN.{ℤ, pos, _+ℤ_, _-ℤ_}
 use lib.Signed.{mag}
 use lib.Count.{leadingZeros}
+use Rattle.algebra.proofs.Products.{times-le, mul-lt-cancel}
+use Rattle.algebra.proofs.Quotients.{div-mod}
 use Rattle.algebra.proofs.Integers.{up, dn, addZ, subZ, eqZ-fact, magZ-fact}
 use Rattle.algebra.proofs.Leading.{leading-fills}
 use Rattle.ieee.specs.Format.{Format, inf}
-use Rattle.round_laws.specs.Location.{below, location, high, beyond, part, highPart, stretched}
+use Rattle.round_laws.specs.Location.{below, location, high, beyond, insideAt, part, highPart, stretched}
 use Rattle.fmt_fields.specs.Width.{format, Fits}
 use Rattle.round_laws.specs.Aligned.{filledAt, Stands}
 use Rattle.round_laws.proofs.Parts.{all-gone}
-use Rattle.round_laws.proofs.Locations.{Lies, locate-normal, locate-subnormal, locate-over}
+use Rattle.round_laws.proofs.Locations.{Lies, quotient-low, locate-normal, locate-subnormal, locate-over}
+use Rattle.round_laws.proofs.Insides.{field-inside, last-outside, low-outside}
 use Rattle.round_laws.proofs.Stretched.{stretched-same, same-lies}
 use Rattle.fmt_fields.proofs.Widths.{four-fields, fills-least, fills-most, kept-small}
 
@@ -99,3 +102,21 @@ module _ {p e : ℕ} (w : Fits p e) (s at : ℕ) (l : 2 ^ 63 ≤ s) (m : s < 2 ^
   -- past the largest finite number
   pub lies-over : (c : ℕ) → at + (63 - p) ≡ c + 2 ^ 21 → 2 ^ e < c + 3 → Lies (format p e) (filledAt s at) (inf (format p e) - 1) 3 true true
   lies-over c h q = locate-over (format p e) (w .fair) (63 - p) s (at - 2 ^ 21) (2 ^ 21 - at) c (fills-least w s l) (omega arith) (omega (arith, four-fields w))
+
+  -- ---- and where each of them stands in the range
+  full : 2 ^ p ≤ s / 2 ^ (63 - p)
+  full = quotient-low (format p e) (w .fair) (63 - p) s (fills-least w s l)
+
+  pub normal-inside : (c : ℕ) → c + 4 ≤ 2 ^ e → true ≡ insideAt (format p e) (c * 2 ^ p + s / 2 ^ (63 - p))
+  normal-inside c k = field-inside (format p e) c (s / 2 ^ (63 - p)) full (kept-small w s (63 - p) m (omega arith)) k
+
+  pub last-field-outside : (c : ℕ) → c + 3 ≡ 2 ^ e → false ≡ insideAt (format p e) (c * 2 ^ p + s / 2 ^ (63 - p))
+  last-field-outside c k = last-outside (format p e) c (s / 2 ^ (63 - p)) full k
+
+  pub subnormal-outside : (k : ℕ) → 64 - p ≤ k → false ≡ insideAt (format p e) (0 * 2 ^ p + s / 2 ^ k)
+  subnormal-outside k h =
+      let (d, r) = div-mod s (2 ^ k) (pow-pos k) in
+      let i : 64 - p + p ≡ 64 = omega (arith, w .word) in
+      let whole : 2 ^ (64 - p) * 2 ^ p ≡ 2 ^ 64 = sym (pow-add 2 (64 - p) p) ∙ ap (λ j. 2 ^ j) i in
+      let few : s / 2 ^ k < 2 ^ p = mul-lt-cancel (s / 2 ^ k) (2 ^ p) (2 ^ k) (omega (arith, whole, times-le (2 ^ p) (pow-mono {i = 64 - p} {j = k} h))) in
+      low-outside (format p e) (0 * 2 ^ p + s / 2 ^ k) (omega (arith, few))

@@ -105,7 +105,7 @@ locate-by f X s a b c m e l u k = lies-by f (s * 2 ^ a) (2 ^ b) m (s % 2 ^ X) (2
 
 -- ---- the values s * 2 ^ a / 2 ^ b, where s has X bits more than the format keeps
 module _ (f : Format) (g : Fair f) where
-  quotient-low : (X s : ℕ) → 2 ^ (X + f .frac) ≤ s → 2 ^ f .frac ≤ s / 2 ^ X
+  pub quotient-low : (X s : ℕ) → 2 ^ (X + f .frac) ≤ s → 2 ^ f .frac ≤ s / 2 ^ X
   quotient-low X s l =
       let d = div-mod s (2 ^ X) (pow-pos X) in
       by-contra (2 ^ f .frac) (s / 2 ^ X) (λ h. omega (arith, d, pow-add 2 X (f .frac), times-le (2 ^ X) h))

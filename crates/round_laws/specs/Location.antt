@@ -1,9 +1,9 @@
 -- Rounding in two steps: locate finds the lower neighbour and the location, and choose takes that neighbour or the next. Assumes nothing.
-use Prim.Native.Nat.{ℕ, suc, _+_, _*_, _%_, _^_}
-use mathlib.Core.Bool.{Bool, cond}
+use Prim.Native.Nat.{ℕ, suc, _+_, _-_, _*_, _%_, _^_}
+use mathlib.Core.Bool.{Bool, _&&_, cond}
 use lib.Dec.{leb, ltb, eqb}
 use lib.IntN.{ℤ, pos, negsuc}
-use Rattle.ieee.specs.Format.{Format, units}
+use Rattle.ieee.specs.Format.{Format, inf, units}
 use Rattle.ieee.specs.Exact.{Exact, ratio, over, under, magnified}
 use Rattle.ieee.specs.Round.{Way, even, away, shorter, longer, middle, rounded}
 
@@ -34,6 +34,10 @@ high f x = highAbove f (below f x) x
 unfoldable pub beyond : Format → Exact → Bool
 unfolding below
 beyond f x = beyondAbove f (below f x) x
+
+-- m is normal, and below the numbers of the last exponent field: from there up nothing but inexact can be raised
+abbrev pub insideAt : Format → ℕ → Bool
+insideAt f m = leb (2 ^ f .frac) m && ltb m (inf f - 2 ^ f .frac)
 
 -- which of m and the next a way takes, by the location p
 abbrev pub chosen : Way → ℕ → ℕ → ℕ

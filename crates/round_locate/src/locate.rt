@@ -16,19 +16,21 @@ use word_bits::pow;
 const LIFT: u32 = 2097152;
 
 // The lower neighbour and the location, which decide every rounding; and for the flags, whether the value is three quarters of the way to the next number or
-// more, and whether it is at that number or past it, as only a value past the largest one is.
+// more, whether it is at that number or past it, as only a value past the largest one is, and whether the neighbour is far enough from both ends of the range
+// that inexact alone can be raised.
 pub struct Located {
     pub below: u64,
     pub location: u64,
     pub high: bool,
     pub beyond: bool,
+    pub inside: bool,
 }
 
 // A significand without its last k bits, under an exponent field of up, and the location of these bits.
-fn shift_out_under(frac: u32, sig: u64, up: u64, k: u32) -> Located
+fn shift_out_under(frac: u32, sig: u64, up: u64, k: u32, inside: bool) -> Located
     requires { ⌜ (frac < 63) × (1 ≤ k) × (k ≤ 64) × (up * 2 ^ frac + sig / 2 ^ k < 2 ^ 63) ⌝ }
     ensures { λ r. ⌜ (r .below ≡ up * 2 ^ frac + sig / 2 ^ k) × (r .location ≡ part (sig % 2 ^ k) (2 ^ k))
-        × (r .high ≡ highPart (sig % 2 ^ k) (2 ^ k)) × (r .beyond ≡ false) ⌝ }
+        × (r .high ≡ highPart (sig % 2 ^ k) (2 ^ k)) × (r .beyond ≡ false) × (r .inside ≡ inside) ⌝ }
 {
     let c = shift_out(sig, k);
     Located {
@@ -36,11 +38,12 @@ fn shift_out_under(frac: u32, sig: u64, up: u64, k: u32) -> Located
         location: c.location,
         high: c.high,
         beyond: false,
+        inside,
     }
 }
 
-// Normal numbers come first, and shed the bits that the format has no room for; below them the exponent field wraps to one past the last. Past the
-// largest finite number, that one is the lower neighbour. Below the least normal number more bits are shed, or all of them: then they are less than half a unit, and one bit far down stands for them.
+// Normal numbers come first, and shed the bits that the format has no room for, those of the last exponent field by themselves; below them the field wraps to one
+// past the last. Past the largest finite number, that one is the lower neighbour. Below the least normal number more bits are shed, or all of them: then they are less than half a unit, and one bit far down stands for them.
 fn locate_normalised(frac: u32, expo: u32, sig: u64, at: u32) -> Located
     requires { ⌜ Fits frac expo × (2 ^ 63 ≤ sig) × (at < 2 ^ 22) ⌝ }
     ensures { λ r. ⌜ Locates (format frac expo) (filledAt sig at) r ⌝ }
@@ -48,8 +51,11 @@ fn locate_normalised(frac: u32, expo: u32, sig: u64, at: u32) -> Located
     let extra = 63 - frac;
     let up = std::num::wrapping_sub_u32(at + extra, LIFT) as u64;
     let last = pow(expo) - 3;
-    if up <= last {
-        return shift_out_under(frac, sig, up, extra);
+    if up < last {
+        return shift_out_under(frac, sig, up, extra, true);
+    }
+    if up == last {
+        return shift_out_under(frac, sig, up, extra, false);
     }
     if at + extra >= LIFT {
         return Located {
@@ -57,12 +63,13 @@ fn locate_normalised(frac: u32, expo: u32, sig: u64, at: u32) -> Located
             location: 3,
             high: true,
             beyond: true,
+            inside: false,
         };
     }
     if at + 64 < LIFT {
-        return shift_out_under(frac, 1, 0, 64);
+        return shift_out_under(frac, 1, 0, 64, false);
     }
-    shift_out_under(frac, sig, 0, LIFT - at)
+    shift_out_under(frac, sig, 0, LIFT - at, false)
 }
 
 // The lower neighbour and the location of sig times 2^exp smallest units.
@@ -76,6 +83,7 @@ pub fn locate(frac: u32, expo: u32, sig: u64, exp: i32) -> Located
             location: 0,
             high: false,
             beyond: false,
+            inside: false,
         };
     }
     let n = normalise(sig, exp);

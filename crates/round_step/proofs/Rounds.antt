@@ -1,19 +1,17 @@
 -- Locate and choose give the answer and the flags, and all of it fits in a word. Assumes nothing.
-use Prim.Native.Nat.{ℕ, suc, _+_, _%_, _^_, _≤_, _<_}
+use Prim.Native.Nat.{ℕ, zero, suc, _+_, _%_, _^_, _≤_, _<_}
 use mathlib.Core.Path.{_≡_, refl, sym, _∙_}
-use mathlib.Core.Bool.{Bool, true, false, not, _&&_, _||_, cond}
+use mathlib.Core.Bool.{Bool, true, false, not, _&&_, cond}
 use native.Mathlib.Omega.{arith}
 use lib.Dec.{ltb, leb, eqb}
 use lib.Pow.{pow-mono}
-use borrow.Author.Tests.{ne-eqb, le-ltb}
+use borrow.Author.Tests.{lt-ltb, ne-eqb}
 use lib.IntN.{ℤ}
 use Rattle.ieee.specs.Format.{Format, Fair, inf}
 use Rattle.ieee.specs.Pattern.{signed}
 use Rattle.ieee.specs.Exact.{Exact}
 use Rattle.ieee.specs.Round.{Way, even, away, shorter, longer, Attribute, toward-positive, toward-negative, wayOf}
-use Rattle.ieee.specs.Flags.{judged, onlyInexact, largest}
 use Rattle.ieee.specs.Scalbn.{scaled}
-use Rattle.ieee.proofs.Decide.{Reads, holds, leb-reads, and-reads}
 use Rattle.ieee.proofs.Patterns.{inf-below-top}
 use Rattle.round_laws.specs.Location.{below, location, high, beyond, chosen, stretched}
 use Rattle.round_laws.specs.Flags.{exceeds, rises, flagsBy}
@@ -52,31 +50,34 @@ module _ {p e : ℕ} (w : Fits p e) (m : ℕ) (l : m < inf (format p e)) where
 pub in-bounds : {p e : ℕ} → Fits p e → {m q : ℕ} (x : Exact) → m ≡ below (format p e) x → q ≡ location (format p e) x → (m < inf (format p e)) × (q ≤ 3)
 in-bounds {p} {e} w x i j = (omega (arith, i, below-finite (format p e) (w .fair) x), omega (arith, j, location-le (format p e) x))
 
--- the next is taken where a test fails
-pub next-unless : (m : ℕ) (b : Bool) → m + cond (not b) 1 0 ≡ m + cond b 0 1
-next-unless m true = refl
-next-unless m false = refl
+-- ---- toward an infinity a value goes away from zero on its side, and toward zero on the other
+later : (m l : ℕ) → m + cond (ltb 0 l) 1 0 ≡ m + cond (eqb l 0) 0 1
+later m zero = refl
+later m (suc l) = rw (lt-ltb 0 (suc l) (omega arith), ne-eqb (suc l) 0 (omega arith)) refl
 
--- toward an infinity is away from zero on its side
-pub down-way : (s : Bool) → cond s longer shorter ≡ wayOf toward-negative s
-down-way true = refl
-down-way false = refl
+pub down-choice : (s : Bool) (m l : ℕ) → m + cond (s && ltb 0 l) 1 0 ≡ chosen (wayOf toward-negative s) m l
+down-choice true m l = later m l
+down-choice false m l = omega arith
 
-pub up-way : (s : Bool) → cond (not s) longer shorter ≡ wayOf toward-positive s
-up-way true = refl
-up-way false = refl
+pub up-choice : (s : Bool) (m l : ℕ) → m + cond (not s && ltb 0 l) 1 0 ≡ chosen (wayOf toward-positive s) m l
+up-choice true m l = omega arith
+up-choice false m l = later m l
 
--- ---- from the least normal number up, and below the largest, only inexact can be raised
-pub inside-flags : (f : Format) (w : Way) (m l : ℕ) (h b : Bool) → leb (2 ^ f .frac) m && ltb m (largest f) ≡ true → onlyInexact (leb 1 l) ≡ flagsBy f w m l h b
-inside-flags f w m l h b i =
-    let (k, j) = both-true (leb-reads (2 ^ f .frac) m) (leb-reads (suc m) (largest f)) i in
-    let o : eqb m (largest f) ≡ false = ne-eqb m (largest f) (omega arith) in
-    let t : ltb (suc m) (2 ^ f .frac) ≡ false = le-ltb (suc m) (2 ^ f .frac) (omega arith) in
-    let e : eqb (suc m) (2 ^ f .frac) ≡ false = ne-eqb (suc m) (2 ^ f .frac) (omega arith) in
-    sym (λ n. judged (o n && exceeds w l b) (t n || (e n && not (rises w l h b))) (leb 1 l))
-  where
-    both-true : {A B : Type 0} {p q : Bool} → Reads A p → Reads B q → p && q ≡ true → A × B
-    both-true p q i = holds (and-reads p q) i
+pub down-exceeds : (s : Bool) (l : ℕ) (b : Bool) → cond s (leb 1 l) b ≡ exceeds (wayOf toward-negative s) l b
+down-exceeds true l b = refl
+down-exceeds false l b = refl
+
+pub up-exceeds : (s : Bool) (l : ℕ) (b : Bool) → cond s b (leb 1 l) ≡ exceeds (wayOf toward-positive s) l b
+up-exceeds true l b = refl
+up-exceeds false l b = refl
+
+pub down-rises : (s : Bool) (l : ℕ) (h b : Bool) → cond s (leb 3 l) b ≡ rises (wayOf toward-negative s) l h b
+down-rises true l h b = refl
+down-rises false l h b = refl
+
+pub up-rises : (s : Bool) (l : ℕ) (h b : Bool) → cond s b (leb 3 l) ≡ rises (wayOf toward-positive s) l h b
+up-rises true l h b = refl
+up-rises false l h b = refl
 
 -- ---- locate and choose give the answer and the flags
 pub round-is : (f : Format) → Fair f → (a : Attribute) (s : Bool) (u : ℕ) (n : ℤ) {m p : ℕ} {h b : Bool}

@@ -1,3 +1,2 @@
 pub mod Mark
-pub mod Ways
 pub mod Outcome

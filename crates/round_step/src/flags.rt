@@ -1,43 +1,51 @@
 // The flags of a value, by its lower neighbour and its location.
 ghost use mathlib.Core.Path.{_≡_};
-ghost use mathlib.Core.Bool.{not, _&&_, _||_};
+ghost use mathlib.Core.Bool.{not, _&&_, _||_, cond};
 ghost use Prim.Native.Nat.{suc, _<_, _≤_, _^_};
-ghost use lib.Dec.{leb, ltb, eqb};
+ghost use lib.Dec.{ltb, eqb};
 ghost use Rattle.ieee.specs.Format.{inf};
 ghost use Rattle.ieee.specs.Flags.{largest};
 ghost use Rattle.fmt_fields.specs.Width.{format, Fits};
-ghost use Rattle.fmt_fields.specs.Raised.{flagsOf};
+ghost use Rattle.ieee.specs.Round.{wayOf};
+ghost use Rattle.fmt_fields.specs.Raised.{flagsOf, attributeOf};
 ghost use Rattle.round_laws.specs.Flags.{exceeds, rises, flagsBy};
-ghost use Rattle.round_step.specs.Ways.{wayIs};
-use crate::way::Way;
+use fmt_fields::env::Attribute;
 use fmt_fields::env::Raised;
-use fmt_fields::env::inexact_if;
 use fmt_fields::env::judge;
 use fmt_fields::pattern::infinity;
 use round_locate::locate::Located;
 use word_bits::pow;
 
-// From the largest finite number up: whether what the value is rounded to would exceed it.
-fn exceeds_largest(way: Way, location: u64, beyond: bool) -> bool
-    ensures { λ r. ⌜ r ≡ exceeds (wayIs way) location beyond ⌝ }
+// One of two, without a jump.
+fn pick(first: bool, one: bool, other: bool) -> bool
+    ensures { λ r. ⌜ r ≡ cond first one other ⌝ }
 {
-    match way {
-        Way::Even => location >= 2,
-        Way::Away => location >= 2,
-        Way::Shorter => beyond,
-        Way::Longer => location >= 1,
+    if first { one } else { other }
+}
+
+// From the largest finite number up: whether what the value is rounded to would exceed it.
+fn exceeds_largest(attribute: Attribute, neg: bool, location: u64, beyond: bool) -> bool
+    ensures { λ r. ⌜ r ≡ exceeds (wayOf (attributeOf attribute) neg) location beyond ⌝ }
+{
+    match attribute {
+        Attribute::Even => location >= 2,
+        Attribute::Zero => beyond,
+        Attribute::Down => pick(neg, location >= 1, beyond),
+        Attribute::Up => pick(neg, beyond, location >= 1),
+        Attribute::Away => location >= 2,
     }
 }
 
 // From the largest subnormal number up: whether what the value is rounded to would be normal.
-fn rises_to_normal(way: Way, location: u64, high: bool, beyond: bool) -> bool
-    ensures { λ r. ⌜ r ≡ rises (wayIs way) location high beyond ⌝ }
+fn rises_to_normal(attribute: Attribute, neg: bool, location: u64, high: bool, beyond: bool) -> bool
+    ensures { λ r. ⌜ r ≡ rises (wayOf (attributeOf attribute) neg) location high beyond ⌝ }
 {
-    match way {
-        Way::Even => high,
-        Way::Away => high,
-        Way::Shorter => beyond,
-        Way::Longer => location >= 3,
+    match attribute {
+        Attribute::Even => high,
+        Attribute::Zero => beyond,
+        Attribute::Down => pick(neg, location >= 3, beyond),
+        Attribute::Up => pick(neg, beyond, location >= 3),
+        Attribute::Away => high,
     }
 }
 
@@ -64,34 +72,12 @@ fn is_tiny(frac: u32, below: u64, normal: bool) -> bool
     next < least
 }
 
-// Whether the lower neighbour is a normal number and not the largest. Less the least normal one, a smaller number wraps past all others.
-fn is_inside(frac: u32, expo: u32, below: u64) -> bool
-    requires { ⌜ Fits frac expo ⌝ }
-    ensures { λ r. ⌜ r ≡ leb (2 ^ frac) below && ltb below (largest (format frac expo)) ⌝ }
-{
-    let least = pow(frac);
-    let most = infinity(frac, expo) - 1;
-    std::num::wrapping_sub_u64(below, least) < most - least
-}
-
-// At the ends of the range.
-fn flags_at_end(frac: u32, expo: u32, way: Way, c: Located) -> Raised
+pub fn flags_at(frac: u32, expo: u32, attribute: Attribute, neg: bool, c: Located) -> Raised
     requires { ⌜ Fits frac expo × (c .below < inf (format frac expo)) ⌝ }
-    ensures { λ r. ⌜ flagsOf r ≡ flagsBy (format frac expo) (wayIs way) (c .below) (c .location) (c .high) (c .beyond) ⌝ }
+    ensures { λ r. ⌜ flagsOf r ≡ flagsBy (format frac expo) (wayOf (attributeOf attribute) neg) (c .below) (c .location) (c .high) (c .beyond) ⌝ }
 {
-    let past = exceeds_largest(way, c.location, c.beyond);
-    let normal = rises_to_normal(way, c.location, c.high, c.beyond);
+    let past = exceeds_largest(attribute, neg, c.location, c.beyond);
+    let normal = rises_to_normal(attribute, neg, c.location, c.high, c.beyond);
     let over = overflows(frac, expo, c.below, past);
     judge(over, is_tiny(frac, c.below, normal), c.location >= 1)
-}
-
-// Inside the range a value is inexact or raises nothing.
-pub fn flags_at(frac: u32, expo: u32, way: Way, c: Located) -> Raised
-    requires { ⌜ Fits frac expo × (c .below < inf (format frac expo)) ⌝ }
-    ensures { λ r. ⌜ flagsOf r ≡ flagsBy (format frac expo) (wayIs way) (c .below) (c .location) (c .high) (c .beyond) ⌝ }
-{
-    if is_inside(frac, expo, c.below) {
-        return inexact_if(c.location >= 1);
-    }
-    flags_at_end(frac, expo, way, c)
 }

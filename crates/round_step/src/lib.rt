@@ -2,4 +2,3 @@
 pub mod choose;
 pub mod flags;
 pub mod round;
-pub mod way;

@@ -7,6 +7,7 @@ use borrow.Author.Needs.{needs}
 use Rattle.ieee.specs.Format.{Format, inf}
 use Rattle.ieee.specs.Pattern.{magnitude}
 use Rattle.fmt_fields.specs.Width.{format}
+use Rattle.fmt_fields.specs.Raised.{attributeOf}
 use Rattle.fma.proofs.Rows.{nan-x, nan-y, nan-z, infinite-z, then-zero}
 use Rattle.fma.proofs.special.fma_special.Statement.{statement}
 use Rattle.fma.proofs.special.fma_special.Tie as tie
@@ -31,13 +32,13 @@ module _ (c : tie.After-magnitude-of3) where
   inf-is = c .before .before .before .infinity .ensures
 
 returns : tie.Need-returns
-returns c = let m = c .before .before in c .nan .ensures ∙ nan-x (f m) (s m .args .x) (s m .args .y) (s m .args .z) (omega (arith, x-is m, inf-is m, c .before .if1 .taken))
+returns c = let m = c .before .before in c .nan .ensures ∙ nan-x (f m) (attributeOf (s m .args .attribute)) (s m .args .x) (s m .args .y) (s m .args .z) (omega (arith, x-is m, inf-is m, c .before .if1 .taken))
 
 returns-2 : tie.Need-returns-2
-returns-2 c = let m = c .before .before .before in c .nan2 .ensures ∙ nan-y (f m) (s m .args .x) (s m .args .y) (s m .args .z) (omega (arith, y-is m, inf-is m, c .before .if2 .taken))
+returns-2 c = let m = c .before .before .before in c .nan2 .ensures ∙ nan-y (f m) (attributeOf (s m .args .attribute)) (s m .args .x) (s m .args .y) (s m .args .z) (omega (arith, y-is m, inf-is m, c .before .if2 .taken))
 
 returns-3 : tie.Need-returns-3
-returns-3 c = let m = c .before .before .before .before in c .nan3 .ensures ∙ nan-z (f m) (s m .args .x) (s m .args .y) (s m .args .z) (omega (arith, z-is m, inf-is m, c .before .if3 .taken))
+returns-3 c = let m = c .before .before .before .before in c .nan3 .ensures ∙ nan-z (f m) (attributeOf (s m .args .attribute)) (s m .args .x) (s m .args .y) (s m .args .z) (omega (arith, z-is m, inf-is m, c .before .if3 .taken))
 
 -- no operand is a NaN
 module _ (c : tie.Else3) where
@@ -77,7 +78,7 @@ module _ (c : tie.Else5) where
 returns-6 : tie.Need-returns-6
 returns-6 c =
     let k = m (o (c .before)) in
-    infinite-z (f k) (s k .args .x) (s k .args .y) (s k .args .z) (s k .pre .1) (x-finite (c .before)) (y-finite (c .before)) (sym (z-is k) ∙ c .if6 .taken ∙ inf-is k)
+    infinite-z (f k) (attributeOf (s k .args .attribute)) (s k .args .x) (s k .args .y) (s k .args .z) (s k .pre .1) (x-finite (c .before)) (y-finite (c .before)) (sym (z-is k) ∙ c .if6 .taken ∙ inf-is k)
 
 of-zero-product-requires : tie.Need-of-zero-product-requires
 of-zero-product-requires c κs =
@@ -108,10 +109,10 @@ nan-requires-3 : tie.Need-nan-requires-3
 nan-requires-3 c κs = search needs
 
 returns-4 : tie.Need-returns-4
-returns-4 c = c .of-infinite-product .ensures
+returns-4 c = c .of-infinite-product .ensures (attributeOf (s (m (c .before .before)) .args .attribute))
 
 returns-5 : tie.Need-returns-5
-returns-5 c = c .of-infinite-product2 .ensures
+returns-5 c = c .of-infinite-product2 .ensures (attributeOf (s (m (c .before .before .before)) .args .attribute))
 
 returns-7 : tie.Need-returns-7
 returns-7 c = c .of-zero-product .ensures

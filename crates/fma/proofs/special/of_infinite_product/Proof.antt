@@ -21,13 +21,13 @@ returns : tie.Need-returns
 returns c =
     let m = c .before .before in
     let s = m .before in
-    c .nan .ensures ∙ zero-x (fmt s) (s .args .x) (s .args .y) (s .args .z) (infinity-some (s .pre .0)) (s .pre .4) (sym (m .magnitude-of .ensures) ∙ c .before .if1 .taken)
+    λ a. c .nan .ensures ∙ zero-x (fmt s) a (s .args .x) (s .args .y) (s .args .z) (infinity-some (s .pre .0)) (s .pre .4) (sym (m .magnitude-of .ensures) ∙ c .before .if1 .taken)
 
 returns-2 : tie.Need-returns-2
 returns-2 c =
     let m = c .before .before in
     let s = m .before .before .before in
-    c .nan2 .ensures ∙ zero-y (fmt s) (s .args .x) (s .args .y) (s .args .z) (infinity-some (s .pre .0)) (s .pre .4) (sym (m .magnitude-of2 .ensures) ∙ c .before .if2 .taken)
+    λ a. c .nan2 .ensures ∙ zero-y (fmt s) a (s .args .x) (s .args .y) (s .args .z) (infinity-some (s .pre .0)) (s .pre .4) (sym (m .magnitude-of2 .ensures) ∙ c .before .if2 .taken)
 
 module _ (c : tie.After-with-sign) where
   abbrev o : tie.Else2
@@ -63,13 +63,13 @@ returns-3 c =
     let m = c .before in
     let w = m .before in
     let e : magnitude (f w) (s w .args .z) < inf (f w) = omega (arith, m .magnitude-of3 .ensures, c .if3 .taken, w .before .infinity .ensures) in
-    answer-is w ∙ decides (f w) (s w .args .x) (s w .args .y) (s w .args .z) (product w) (s w .pre .3) (λ h. absurd (omega arith))
+    λ a. answer-is w ∙ decides (f w) a (s w .args .x) (s w .args .y) (s w .args .z) (product w) (s w .pre .3) (λ h. absurd (omega arith))
 
 returns-4 : tie.Need-returns-4
 returns-4 c =
     let n = c .before in
     let v = w n in
-    answer-is v ∙ decides (f v) (s v .args .x) (s v .args .y) (s v .args .z) (product v) (s v .pre .3) (λ h. sym (signs n) ∙ ap not (c .if4 .taken))
+    λ a. answer-is v ∙ decides (f v) a (s v .args .x) (s v .args .y) (s v .args .z) (product v) (s v .pre .3) (λ h. sym (signs n) ∙ ap not (c .if4 .taken))
 
 returns-5 : tie.Need-returns-5
 returns-5 c =
@@ -77,7 +77,7 @@ returns-5 c =
     let v = w n in
     let m = n .before .before in
     let e : magnitude (f v) (s v .args .z) ≡ inf (f v) = omega (arith, m .magnitude-of3 .ensures, n .before .if3 .left, v .before .infinity .ensures, s v .pre .3) in
-    c .nan3 .ensures ∙ opposite (f v) (s v .args .x) (s v .args .y) (s v .args .z) (product v) e (sym (signs n) ∙ ap not (c .before .if4 .left))
+    λ a. c .nan3 .ensures ∙ opposite (f v) a (s v .args .x) (s v .args .y) (s v .args .z) (product v) e (sym (signs n) ∙ ap not (c .before .if4 .left))
 
 magnitude-of-requires : tie.Need-magnitude-of-requires
 magnitude-of-requires c κs = search needs

@@ -5,8 +5,9 @@ use native.Mathlib.Omega.{arith}
 use borrow.Author.Needs.{needs}
 use Rattle.ieee.specs.Format.{Format}
 use Rattle.ieee.specs.Pattern.{magnitude, unlike}
-use Rattle.ieee.specs.Fma.{fmaOf, against}
+use Rattle.ieee.specs.Fma.{fmaIn, against}
 use Rattle.fmt_fields.specs.Width.{format}
+use Rattle.fmt_fields.specs.Raised.{attributeOf}
 use Rattle.fma.proofs.Rows.{unlike-zeros, leaves-z}
 use Rattle.fma.proofs.special.of_zero_product.Statement.{statement}
 use Rattle.fma.proofs.special.of_zero_product.Tie as tie
@@ -14,8 +15,8 @@ use Rattle.fma.proofs.special.of_zero_product.Tie as tie
 abbrev fmt : tie.Start → Format
 fmt s = format (s .args .frac) (s .args .expo)
 
-leaves : (s : tie.Start) → (magnitude (fmt s) (s .args .z) ≡ 0 → against (fmt s) (s .args .x) (s .args .y) (s .args .z) ≡ false) → s .args .z ≡ fmaOf (fmt s) (s .args .x) (s .args .y) (s .args .z)
-leaves s a = leaves-z (fmt s) (s .args .x) (s .args .y) (s .args .z) (s .pre .1) (s .pre .2) (s .pre .3) (s .pre .4) (s .pre .5) a
+leaves : (s : tie.Start) → (magnitude (fmt s) (s .args .z) ≡ 0 → against (fmt s) (s .args .x) (s .args .y) (s .args .z) ≡ false) → s .args .z ≡ fmaIn (fmt s) (attributeOf (s .args .attribute)) (s .args .x) (s .args .y) (s .args .z)
+leaves s a = leaves-z (fmt s) (attributeOf (s .args .attribute)) (s .args .x) (s .args .y) (s .args .z) (s .pre .1) (s .pre .2) (s .pre .3) (s .pre .4) (s .pre .5) a
 
 module _ (c : tie.After-is-negative3) where
   abbrev low : tie.Else1
@@ -40,9 +41,9 @@ returns-2 c = leaves (s (c .before)) (λ e. sym (signs (c .before)) ∙ ap not (
 
 returns-3 : tie.Need-returns-3
 returns-3 c =
-    let o = c .before in
+    let o = c .before .before in
     let a = s o in
-    unlike-zeros (fmt a) (a .args .x) (a .args .y) (a .args .z) (a .pre .1) (a .pre .2) (a .pre .3) (a .pre .4) (a .pre .5) (none o) (sym (signs o) ∙ ap not (c .if2 .left))
+    c .zero-sum .ensures ∙ unlike-zeros (fmt a) (attributeOf (a .args .attribute)) (a .args .x) (a .args .y) (a .args .z) (a .pre .1) (a .pre .2) (a .pre .3) (a .pre .4) (a .pre .5) (none o) (sym (signs o) ∙ ap not (c .before .if2 .left))
 
 magnitude-of-requires : tie.Need-magnitude-of-requires
 magnitude-of-requires c κs = search needs
@@ -66,4 +67,5 @@ of-zero-product-spec =
     is-negative-requires-2
     is-negative-requires-3
     returns-2
+    (λ c κs. search needs)
     returns-3)

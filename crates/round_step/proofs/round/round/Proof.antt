@@ -18,13 +18,13 @@ finish-requires : tie.Need-finish-requires
 finish-requires c κs =
     let s = c .before in
     let e = location-is c in
-    let (b, l) = in-bounds (s .pre .0) (stretched (s .args .sig) (s .args .exp)) (e .0) (e .1) in
+    let (b, l) = in-bounds (s .pre .0) (stretched (s .args .sig) (s .args .exp)) (e .0 .0) (e .0 .1) in
     (s .pre .0, b, l)
 
 returns : tie.Need-returns
 returns c =
     let s = c .before .before in
-    c .finish .ensures ∙ round-is (format (s .args .frac) (s .args .expo)) (s .pre .0 .fair) (attributeOf (s .args .attribute)) (s .args .neg) (s .args .sig) (s .args .exp) (location-is (c .before))
+    c .finish .ensures ∙ round-is (format (s .args .frac) (s .args .expo)) (s .pre .0 .fair) (attributeOf (s .args .attribute)) (s .args .neg) (s .args .sig) (s .args .exp) (location-is (c .before) .0)
 
 pub round-spec : {M : Type 1} → statement M
 round-spec = tie.close (tie.spec (λ c κs. search needs) finish-requires returns)
