@@ -1,5 +1,17 @@
-# glibc's tests of sqrt, fma and scalbn in nearest mode, with their flags, as lines of docs/LINES.md. Read after numbers.awk. The computed lists (auto-libm-test-out-*) name format and
-# rounding mode in each line; the written ones (libm-test-*.inc) hold for every format and use names for its limits.
+# glibc's tests of sqrt, fma and scalbn, with their flags, as lines of docs/LINES.md: in nearest mode or, if attributes is set, in all four modes, as attributes. Read after numbers.awk and
+# marks.awk. The computed lists (auto-libm-test-out-*) name format and rounding mode in each line; the written ones (libm-test-*.inc) hold for every format and use names for its limits.
+
+BEGIN {
+    nameCount = split("sqrt64 sqrt32 fma64 fma32 scalbn64 scalbn32", names, " ")
+    # The modes are in the order of a written vector's answers.
+    modeCount = split("downward tonearest towardzero upward", modeAt, " ")
+    split("down even zero up", attributeAt, " ")
+    for (i = 1; i <= modeCount; i++) modeOf[modeAt[i]] = i
+    inMode["plus_oflow"] = "max_value plus_infty max_value plus_infty"
+    inMode["minus_oflow"] = "minus_infty minus_infty -max_value -max_value"
+    inMode["plus_uflow"] = "plus_zero plus_zero plus_zero min_subnorm_value"
+    inMode["minus_uflow"] = "-min_subnorm_value minus_zero minus_zero minus_zero"
+}
 
 function wrong(what) {
     print FILENAME ":" FNR ": error: " what > "/dev/stderr"
@@ -14,8 +26,8 @@ function value_of(text,    minus, by, digits, exponent) {
     minus = sub(/^-/, "", text) ? "-" : ""
     if (text == "qnan_value") return special(minus, "1" zeros(fraction - 1))
     if (text == "snan_value") return special(minus, "01" zeros(fraction - 2))
-    if (text ~ /^(plus|minus)_(infty|oflow)$/) return special(text ~ /^m/ ? "-" : "", zeros(fraction))
-    if (text ~ /^(plus|minus)_(zero|uflow)$/) {
+    if (text ~ /^(plus|minus)_infty$/) return special(text ~ /^m/ ? "-" : "", zeros(fraction))
+    if (text ~ /^(plus|minus)_zero$/) {
         keep(text ~ /^m/ ? "-" : "", "", 0)
         return pattern()
     }
@@ -59,94 +71,57 @@ function power_of(text,    minus) {
     return minus * (fraction + 1) + (text ~ /\+1$/ ? 1 : text ~ /[A-Z]-1$/ ? -1 : 0)
 }
 
-# ---- the flags. Each reader sets raised[] and, where the vector leaves one open, open to its name.
-BEGIN {
-    flagCount = split("INVALID DIVBYZERO OVERFLOW UNDERFLOW INEXACT", flagAt, " ")
-    split("invalid divbyzero overflow underflow inexact", wordAt, " ")
-    split("INVALID DIVIDE_BY_ZERO OVERFLOW UNDERFLOW INEXACT", macroAt, " ")
-    for (i = 1; i <= flagCount; i++) flagOf[wordAt[i]] = flagOf[macroAt[i]] = flagAt[i]
-}
+# All modes are asked for, or nearest alone, whose lines name no attribute.
+function is_asked(mode) { return attributes || modeAt[mode] == "tonearest" }
 
-# inexact underflow:before-rounding errno-erange-ok: of a correctly rounded function each flag that is not there is not raised. Ours is the machine that judges after rounding.
-function read_flags(text,    words, n, i, flag) {
-    n = split(text, words, " ")
-    for (i = 1; i <= n; i++) {
-        if (words[i] ~ /^errno-/) continue
-        flag = words[i]
-        sub(/(-ok)?(:[a-z]*-rounding)?$/, "", flag)
-        if (!(flag in flagOf)) wrong("no flag that is understood: " words[i])
-        if (words[i] ~ /:before-rounding$/) { before[operation_at_hand]++; continue }
-        if (words[i] ~ /-ok/) open = flagOf[flag]
-        else raised[flagOf[flag]] = 1
-    }
-}
-
-# INEXACT_EXCEPTION|UNDERFLOW_EXCEPTION|ERRNO_PLUS_UFLOW: inexact is open unless it is named, the others are not raised unless they are; XFAIL is of another format.
-function read_macros(text,    words, n, i, flag, isInexactKnown) {
-    gsub(/ /, "", text)
-    n = split(text, words, "|")
-    for (i = 1; i <= n; i++) {
-        if (words[i] ~ /^(ERRNO_[A-Z_]*|XFAIL_ROUNDING_IBM128_LIBGCC)$/) continue
-        if (words[i] ~ /^(NO_)?INEXACT_EXCEPTION$/) isInexactKnown = 1
-        if (words[i] == "NO_INEXACT_EXCEPTION") continue
-        flag = words[i]
-        sub(/_EXCEPTION(_OK)?$/, "", flag)
-        if (!(flag in flagOf) || flag == words[i]) wrong("no flag that is understood: " words[i])
-        if (words[i] ~ /_OK$/) open = flagOf[flag]
-        else raised[flagOf[flag]] = 1
-    }
-    if (!isInexactKnown) open = "INEXACT"
-}
-
-function flags_text(    i, text) {
-    for (i = 1; i <= flagCount; i++) if (flagAt[i] in raised) text = text (text == "" ? "" : "+") flagAt[i]
-    return text == "" ? "OK" : text
-}
-function clear_flags(name) {
-    operation_at_hand = name
-    open = ""
-    split("", raised)
-}
-
-# One line, with its answer; the same request may stand in two lists. A vector that leaves a flag open is left out.
-function take(operation, operands, answer,    line) {
-    found[operation width]++
-    if (open != "") {
-        leftOut[operation width " " open]++
+# One line, with its answer; the same request may stand in two lists. A vector that leaves something open, or that is expected to fail, is left out.
+function take(operation, mode, operands, answer,    line) {
+    operation = operation width
+    found[operation, mode]++
+    if (isTinyBefore) before[operation]++
+    if (answer == "IGNORE") leave_out("answer")
+    if (reason != "") {
+        leftOut[operation " " reason]++
         return
     }
-    line = operation width " " operands " -> " answer " " flags_text()
+    line = operation (attributes ? "." attributeAt[mode] : "") " " operands " -> " (attributes ? "0 " : "") answer_of(answer, mode) " " flags_text()
     if (line in seen) return
     seen[line] = 1
-    taken[operation width]++
+    taken[operation, mode]++
     lines[++last] = line
 }
 function needed(text, what, from) {
     if (text == "") wrong("no " what " that is understood: " from)
     return text
 }
-# A NaN of any sign and payload counts as the canonical one, as in all answers here.
-function answer_of(text,    word) {
+# A NaN of any sign and payload counts as the canonical one, as in all answers here. What overflows or underflows is another number in each mode.
+function answer_of(text, mode,    word, byMode) {
+    if (text in inMode) {
+        split(inMode[text], byMode, " ")
+        text = byMode[mode]
+    }
     word = needed(value_of(text), "answer", text)
     return text ~ /nan/ ? special("", "1" zeros(fraction - 1)) : word
 }
 
 # = fma tonearest binary64 X Y Z : R : flags
-$1 == "=" && $3 == "tonearest" && ($4 == "binary64" || $4 == "binary32") {
+$1 == "=" && ($4 == "binary64" || $4 == "binary32") {
+    if (!($3 in modeOf)) wrong("no mode that is understood: " $3)
+    if (!is_asked(modeOf[$3])) next
     choose(substr($4, 7) + 0)
     operands = ""
     for (i = 5; $i != ":" && i < NF; i++) operands = operands (i > 5 ? " " : "") needed(value_of($i), "operand", $i)
     answer = $(i + 1)
     if ($(i + 2) != ":") wrong("no flags after the answer")
-    clear_flags($2 width)
     text = $0
     sub(/^[^:]*:[^:]*:/, "", text)
-    read_flags(text)
-    take($2, operands, answer_of(answer))
+    clear_marks()
+    read_words(text)
+    take($2, modeOf[$3], operands, answer)
     next
 }
 
-# TEST_fi_f (scalbn, X, N, R, flags), or four answers with flags: down, nearest, toward zero, up.
+# TEST_fi_f (scalbn, X, N, R, flags), or four answers with flags.
 /^ *TEST_(f|fi|fff)_f \(/ {
     text = $0
     shape = $1
@@ -154,37 +129,60 @@ $1 == "=" && $3 == "tonearest" && ($4 == "binary64" || $4 == "binary32") {
     sub(/\),? *$/, "", text)
     count = split(text, parts, / *, */)
     inputs = shape == "TEST_fff_f" ? 3 : shape == "TEST_fi_f" ? 2 : 1
-    if (count == inputs + 3) at = inputs + 2
-    else if (count == inputs + 9) at = inputs + 4
-    else wrong("neither one answer nor four: " text)
+    if (count != inputs + 3 && count != inputs + 9) wrong("neither one answer nor four: " text)
     for (bits = 64; bits >= 32; bits -= 32) {
         choose(bits)
         operands = needed(value_of(parts[2]), "operand", parts[2])
         if (inputs == 3) operands = operands " " needed(value_of(parts[3]), "operand", parts[3]) " " needed(value_of(parts[4]), "operand", parts[4])
         if (inputs == 2) operands = operands " " needed(power_of(parts[3]), "power", parts[3])
-        clear_flags(parts[1] width)
-        read_macros(parts[at + 1])
-        take(parts[1], operands, answer_of(parts[at]))
+        for (mode = 1; mode <= modeCount; mode++) {
+            if (!is_asked(mode)) continue
+            at = inputs + 2 + (count == inputs + 9 ? 2 * (mode - 1) : 0)
+            clear_marks()
+            read_macros(parts[at + 1])
+            take(parts[1], mode, operands, parts[at])
+        }
     }
+    next
 }
+/^ *TEST_/ { wrong("no vector that is understood: " $0) }
 
 # COUNT NAME, .. for the names that a list of counts has
 function told(list, after,    i, text) {
     for (i = 1; i <= nameCount; i++) if ((names[i] after) in list) text = text (text == "" ? "" : ", ") list[names[i] after] " " names[i]
     return text
 }
+# What was left out, by reason: a flag that is left open is named, and the other reasons stand where there are any.
+function left_out(    i, flag, text) {
+    for (i = 1; i <= flagCount; i++) {
+        flag = told(leftOut, " " flagAt[i])
+        if (flag != "") text = text (text == "" ? "" : "; ") flagAt[i] " " flag
+    }
+    text = "left out, as they leave a flag open: " (text == "" ? "none" : text)
+    if (told(leftOut, " sign") != "") text = text "; the sign of a zero or an infinity: " told(leftOut, " sign")
+    if (told(leftOut, " answer") != "") text = text "; the answer: " told(leftOut, " answer")
+    if (told(leftOut, " failing") != "") text = text "; as they are expected to fail: " told(leftOut, " failing")
+    return text
+}
+# TAKEN of FOUND NAME. Each mode has vectors, and the same ones.
+function counts_of(name,    mode, all, left) {
+    for (mode = 1; mode <= modeCount; mode++) {
+        if (!is_asked(mode)) continue
+        if (!taken[name, mode]) wrong("no line of " name ", " modeAt[mode])
+        if (found[name, mode] != found[name, modeOf["tonearest"]]) wrong(found[name, mode] " vectors of " name ", " modeAt[mode] ", and " found[name, modeOf["tonearest"]] ", tonearest")
+        all += found[name, mode]
+        left += taken[name, mode]
+    }
+    return left " of " all " " name
+}
 
 END {
     if (failed) exit 1
-    nameCount = split("sqrt64 sqrt32 fma64 fma32 scalbn64 scalbn32", names, " ")
-    for (i = 1; i <= nameCount; i++) {
-        if (!taken[names[i]]) wrong("no line of " names[i])
-        counts = counts (i > 1 ? ", " : "") taken[names[i]] " of " found[names[i]] " " names[i]
-    }
-    for (i = 1; i <= flagCount; i++) if (told(leftOut, " " flagAt[i]) != "") left = left (left == "" ? "" : "; ") flagAt[i] " " told(leftOut, " " flagAt[i])
-    left = "left out, as they leave a flag open: " (left == "" ? "none" : left)
+    for (i = 1; i <= nameCount; i++) counts = counts (i > 1 ? ", " : "") counts_of(names[i])
+    left = left_out()
     print "# Published test vectors for correctly rounded operations: the GNU C Library 2.36 (LGPL 2.1 or later), math/auto-libm-test-out-sqrt and -fma and math/libm-test-sqrt.inc, -fma.inc and"
-    print "# -scalbn.inc, formats binary64 and binary32, nearest mode, with the flags that they state; figures alone, written by tools/vectors."
+    modes = attributes ? "all four of its modes, which are the attributes even, zero, down and up" : "nearest mode"
+    print "# -scalbn.inc, formats binary64 and binary32, " modes ", with the flags that they state; figures alone, written by tools/vectors" (attributes ? " --attributes" : "") "."
     print "# Lines without those that came twice: " counts "; " left "."
     print "# Underflow where tininess is judged before rounding, and so not raised here: " told(before, "") "."
     for (i = 1; i <= last; i++) print lines[i]
