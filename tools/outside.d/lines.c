@@ -82,7 +82,9 @@ static void take_line(struct text line) {
         fprintf(stderr, "%s:%" PRIu64 ": error: %s\n", input_name, line_number, error);
         return;
     }
-    enum outcome outcome = request.attribute == OTHER ? NO_ATTRIBUTE : work_out(&request, &answer);
+    enum outcome outcome = request.attribute == OTHER   ? NO_ATTRIBUTE
+                           : request.operation == SCALBN ? scale(&request, &answer)
+                                                         : work_out(&request, &answer);
     if (outcome == ANSWERED)
         put_claim(line, &request, &answer);
     count(&request, outcome);

@@ -79,8 +79,8 @@ static int attribute_of(const struct request *request) {
     return request->operation == TRUNC ? FE_TOWARDZERO : modes[rounding_of(request)];
 }
 
-static struct answer calculate(const struct request *request, uint64_t y) {
-    const uint64_t x = request->operand[0], z = request->operand[2];
+static struct answer calculate(const struct request *request) {
+    const uint64_t x = request->operand[0], y = request->operand[1], z = request->operand[2];
     struct answer answer;
     fesetround(attribute_of(request));
     if (request->width == W64) {
@@ -98,18 +98,17 @@ static struct answer calculate(const struct request *request, uint64_t y) {
     return answer;
 }
 
-static bool raises(unsigned flag, const struct request *request, uint64_t y) {
-    return (calculate(request, y).flags & flag) != 0;
+static bool raises(unsigned flag, const struct request *request) {
+    return (calculate(request).flags & flag) != 0;
 }
 
 void prepare(void) {
     /* (1 + 2^-52) 2^-511 times (1 - 2^-52) 2^-511, and 2^-1022 - 2^-540 2^-540, are below 2^-1022 and round to it. */
-    const uint64_t near_one = 0x1ffffffffffffffe;
-    struct request product = {SCALBN, W64, EVEN, {0x2000000000000001, 0, 0}, 0};
-    struct request difference = {FMA, W64, EVEN, {0x9e30000000000000, 0, 0x0010000000000000}, 0};
-    struct request unknown = {FMA, W64, EVEN, {0, 0, 0x7ff8000000000000}, 0};
-    before_rounding = raises(UNDERFLOW, &product, near_one) || raises(UNDERFLOW, &difference, 0x1e30000000000000);
-    product_raises = raises(INVALID, &unknown, infinity(W64));
+    const struct request product = {SCALBN, W64, EVEN, {0x2000000000000001, 0x1ffffffffffffffe, 0}, 0};
+    const struct request difference = {FMA, W64, EVEN, {0x9e30000000000000, 0x1e30000000000000, 0x0010000000000000}, 0};
+    const struct request unknown = {FMA, W64, EVEN, {0, infinity(W64), 0x7ff8000000000000}, 0};
+    before_rounding = raises(UNDERFLOW, &product) || raises(UNDERFLOW, &difference);
+    product_raises = raises(INVALID, &unknown);
 }
 
 /* Zero times infinity plus a quiet NaN: whether it is invalid is left open by IEEE 754. */
@@ -122,19 +121,15 @@ static bool is_open_product(const struct request *request) {
 }
 
 enum outcome work_out(const struct request *request, struct answer *answer) {
-    uint64_t y = request->operation == FMA ? request->operand[1] : 0, least_normal;
     if (request->width == W16)
         return NO_WIDTH;
     if (request->attribute == AWAY)
         return NO_ATTRIBUTE;
-    if (request->operation == SCALBN && !power_of_two(request->width, request->n, &y))
-        return NO_POWER;
     if (!product_raises && is_open_product(request))
         return PRODUCT;
-    *answer = calculate(request, y);
+    *answer = calculate(request);
     /* Tininess judged before and after rounding differ at this result alone. */
-    power_of_two(request->width, request->width == W64 ? -1022 : -126, &least_normal);
-    if (before_rounding && (answer->flags & UNDERFLOW) && magnitude(request->width, answer->bits) == least_normal)
+    if (before_rounding && (answer->flags & UNDERFLOW) && magnitude(request->width, answer->bits) == least_normal(request->width))
         return TININESS;
     return ANSWERED;
 }

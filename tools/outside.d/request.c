@@ -1,4 +1,4 @@
-/* Reads a request of docs/LINES.md: sqrt64.up X, fma32.even X Y Z, scalbn16.away X N, floor64.flags X. */
+/* Reads a request of docs/LINES.md: sqrt64.up X, fma32.even X Y Z, scalbn16.away X N, floor64 X. */
 #include <stdio.h>
 #include <string.h>
 

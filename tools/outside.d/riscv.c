@@ -43,10 +43,8 @@ enum outcome work_out(const struct request *request, struct answer *answer) {
     const enum width width = request->width;
     /* The instructions of floor and trunc name their own. */
     const enum attribute attribute = rounding_of(request);
-    const uint64_t x = request->operand[0], z = request->operation == FMA ? request->operand[2] : 0;
-    uint64_t y = request->operation == FMA ? request->operand[1] : 0, result, fflags;
-    if (request->operation == SCALBN && !power_of_two(width, request->n, &y))
-        return NO_POWER;
+    const uint64_t x = request->operand[0], y = request->operand[1], z = request->operand[2];
+    uint64_t result, fflags;
     if (request->operation == FLOOR || request->operation == TRUNC) {
         enum outcome outcome = fits_an_integer(width, x);
         if (outcome != ANSWERED)

@@ -31,20 +31,18 @@ static float64_t integral(float64_t x, uint_fast8_t attribute) {
     return result;
 }
 
-static enum outcome in_reach(const struct request *request, uint64_t *power) {
+static enum outcome in_reach(const struct request *request) {
     if (request->width != W64)
         return NO_WIDTH;
-    if (request->operation == SCALBN && !power_of_two(W64, request->n, power))
-        return NO_POWER;
     if (request->operation == FLOOR || request->operation == TRUNC)
         return fits_an_integer(W64, request->operand[0]);
     return ANSWERED;
 }
 
 enum outcome work_out(const struct request *request, struct answer *answer) {
-    const float64_t x = {request->operand[0]};
-    float64_t power = {0}, result;
-    enum outcome outcome = in_reach(request, &power.v);
+    const float64_t x = {request->operand[0]}, y = {request->operand[1]}, z = {request->operand[2]};
+    float64_t result;
+    enum outcome outcome = in_reach(request);
     if (outcome != ANSWERED)
         return outcome;
     softfloat_exceptionFlags = 0;
@@ -52,8 +50,8 @@ enum outcome work_out(const struct request *request, struct answer *answer) {
     softfloat_roundingMode = rounding_of(request);
     switch (request->operation) {
     case SQRT: result = f64_sqrt(x); break;
-    case FMA: result = f64_mulAdd(x, (float64_t){request->operand[1]}, (float64_t){request->operand[2]}); break;
-    case SCALBN: result = f64_mul(x, power); break;
+    case FMA: result = f64_mulAdd(x, y, z); break;
+    case SCALBN: result = f64_mul(x, y); break;
     case FLOOR: result = integral(x, softfloat_round_min); break;
     default: result = integral(x, softfloat_round_minMag); break;
     }

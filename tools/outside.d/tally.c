@@ -9,7 +9,6 @@ static uint64_t counts[OPERATIONS][WIDTHS][ATTRIBUTES][OUTCOMES];
 static const char *const reasons[OUTCOMES] = {
     [NO_ATTRIBUTE] = "no such attribute here",
     [NO_WIDTH] = "no such width here",
-    [NO_POWER] = "2^N is no number of the format",
     [NOT_FINITE] = "not finite",
     [TOO_LARGE] = "magnitude from 2^62 on",
     [TININESS] = "tininess judged before rounding",
