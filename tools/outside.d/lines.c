@@ -70,6 +70,12 @@ static void put_claim(struct text written, const struct request *request, const 
     put("\n", 1);
 }
 
+static enum outcome ask(const struct request *request, struct answer *answer) {
+    if (request->attribute == OTHER)
+        return NO_ATTRIBUTE;
+    return request->operation == SCALBN ? scale(request, answer) : work_out(request, answer);
+}
+
 static void take_line(struct text line) {
     struct request request = {0};
     struct answer answer;
@@ -82,9 +88,7 @@ static void take_line(struct text line) {
         fprintf(stderr, "%s:%" PRIu64 ": error: %s\n", input_name, line_number, error);
         return;
     }
-    enum outcome outcome = request.attribute == OTHER   ? NO_ATTRIBUTE
-                           : request.operation == SCALBN ? scale(&request, &answer)
-                                                         : work_out(&request, &answer);
+    enum outcome outcome = ask(&request, &answer);
     if (outcome == ANSWERED)
         put_claim(line, &request, &answer);
     count(&request, outcome);

@@ -164,7 +164,7 @@ function left_out(    i, flag, text) {
     if (told(leftOut, " failing") != "") text = text "; as they are expected to fail: " told(leftOut, " failing")
     return text
 }
-# TAKEN of FOUND NAME. Each mode has vectors, and the same ones.
+# TAKEN of FOUND NAME. Each mode has vectors, as many as nearest mode.
 function counts_of(name,    mode, all, left) {
     for (mode = 1; mode <= modeCount; mode++) {
         if (!is_asked(mode)) continue
