@@ -3,13 +3,14 @@
 
    A pattern is the bits of an IEEE 754 number as an unsigned integer: binary64 in a uint64_t, binary32 in a uint32_t. A name
    that ends in a width takes patterns: pk_sqrt64. ISO C's own names take numbers: pk_sqrt a double, pk_sqrtf a float. A name
-   that ends in _flags gives the same answer with its flags. One call answers one question: what has a second part, as flags
-   or a quotient, puts it where the last argument points to.
+   that ends in _flags gives the same answer with its flags; one that ends in _rounded takes a rounding attribute first. One
+   call answers one question: what has a second part, as flags or a quotient, puts it where the last argument points to. What
+   may be refused gives the refusal's number, and its value goes through a pointer too.
 
    Every function on patterns is proved to give the answer described here, for every input. docs/TRUST.md says what that
    rests on.
-   - Every pattern is answered: every NaN, infinity, zero and subnormal number too. Only the reduction and the list call
-     refuse, by a number.
+   - Every pattern is answered: every NaN, infinity, zero and subnormal number too. Only the reduction, the list call and a
+     call under an attribute refuse, by a number.
    - An answer depends on the arguments alone. What a pointer argument points to is written besides, and nothing else is.
    - No call can fail, and none asks anything of its caller but for its pointers: each must be valid and aligned, and what it
      points to must overlap nothing else that the call reads or writes.
@@ -17,10 +18,10 @@
    Tested and not proved: a call needs no rounding mode and sets none, raises no floating-point flag of the processor, keeps
    no state, allocates nothing, and may be made from any thread at any time. The answers are the same on x86-64 and on Arm.
 
-   "Rounded once" is rounded to nearest: no number of the format is nearer to the exact value, and of two that are equally
-   near the answer is the one whose last bit is 0. From halfway between the largest finite number and the power of two
-   above it on, 2^1024 - 2^970 at 64 bits and 2^128 - 2^103 at 32, the answer is infinity. A value that rounds to zero gives
-   a zero with the value's sign.
+   "Rounded once", where no attribute is named, is rounded to nearest: no number of the format is nearer to the exact value,
+   and of two that are equally near the answer is the one whose last bit is 0. From halfway between the largest finite number
+   and the power of two above it on, 2^1024 - 2^970 at 64 bits and 2^128 - 2^103 at 32, the answer is infinity. A value that
+   rounds to zero gives a zero with the value's sign.
 
    The canonical NaN is PK_NAN64 or PK_NAN32. It is the only NaN that is ever answered.
 
@@ -48,10 +49,11 @@ extern "C" {
 /* The exceptions of IEEE 754, clause 7, as bits. A function whose name ends in _flags overwrites *flags with those that this
    call raises, and PK_OK for none; a caller that gathers those of several calls joins them with |.
    PK_INVALID comes alone, and the answer is then the canonical NaN. A signalling NaN raises it; a quiet NaN by itself raises
-   nothing. PK_INEXACT is raised where the answer is not the exact value, PK_OVERFLOW where a finite value rounds to infinity,
-   and so never without PK_INEXACT. PK_UNDERFLOW is raised where the answer is inexact and the value is tiny: rounded with no
-   bound on the exponent, it would not be 0 and lie below the least normal number in magnitude (tininess after rounding). No
-   function here raises PK_DIVBYZERO. */
+   nothing. PK_INEXACT is raised where the answer is not the exact value, and so wherever one of the next two is. Both go by a
+   finite value rounded with no bound on the exponent: PK_OVERFLOW is raised where that is past the largest finite number, and
+   the answer is then infinity, or under an attribute perhaps the largest number; PK_UNDERFLOW where the answer is inexact and
+   the value is tiny, which is that it would not be 0 and lie below the least normal number in magnitude (tininess after
+   rounding). No function here raises PK_DIVBYZERO. */
 enum pk_flags {
     PK_OK = 0,
     PK_INVALID = 1,
@@ -61,15 +63,33 @@ enum pk_flags {
     PK_INEXACT = 32
 };
 
-/* What pk_list64 gives (0 to 3), and the reduction (0, 4 and 5). The reasons are looked at in the order of their numbers: the
-   first that holds is given, and none is given otherwise. */
+/* What pk_list64 gives (0 to 3), the reduction (0, 4 and 5), and a function whose name ends in _rounded (0 and 10). The reasons
+   are looked at in the order of their numbers: the first that holds is given, and none is given otherwise. */
 enum pk_refusal {
     PK_DONE = 0,              /* nothing is refused */
     PK_UNKNOWN_OPERATION = 1, /* list: the operation is none of enum pk_list_operation */
     PK_LIST_TOO_LONG = 2,     /* list: either list is longer than PK_LIST_LIMIT places */
     PK_LENGTHS_DIFFER = 3,    /* list: the two lists have not the same length */
     PK_OUT_OF_RANGE = 4,      /* reduction: y is above PK_DIVISOR_LIMIT64 (PK_DIVISOR_LIMIT32), or x is not below 2y */
-    PK_SHIFT_TOO_GREAT = 5    /* reduction: e is above PK_SHIFT_LIMIT */
+    PK_SHIFT_TOO_GREAT = 5,   /* reduction: e is above PK_SHIFT_LIMIT */
+    PK_UNKNOWN_ATTRIBUTE = 10 /* under an attribute: the number is none of enum pk_attribute */
+};
+
+/* The rounding attributes of IEEE 754, clause 4.3, by the numbers of RISC-V and SoftFloat; <fenv.h> and FLT_ROUNDS have others.
+   A function whose name ends in _rounded takes one before its operands, and rounds once under it: *value becomes the answer,
+   *flags its flags, and PK_DONE is given. A number that is no attribute is refused with PK_UNKNOWN_ATTRIBUTE; *value and *flags
+   then become 0. So both are always written: each pointer must be valid and aligned, and what they point to must not overlap.
+   PK_ROUND_EVEN gives what the function without an attribute gives. An exact answer is the same under every attribute, but for
+   the sign of fma's zero sums; another has the exact value's sign, as a zero too. PK_ROUND_DOWN and PK_ROUND_UP give the ends
+   of a band that holds the exact value; no band is tighter, and where the answer is exact the ends are equal.
+   A finite value past the largest finite number is infinity to the nearest, from halfway on, and the largest number toward
+   zero; down and up it is the one of these two that lies below or above it (clause 7.4). */
+enum pk_attribute {
+    PK_ROUND_EVEN = 0, /* to the nearest; of two that are equally near, the one whose last bit is 0 */
+    PK_ROUND_ZERO = 1, /* toward zero: the nearest that is not greater in magnitude */
+    PK_ROUND_DOWN = 2, /* toward negative infinity: the greatest that is not above the exact value */
+    PK_ROUND_UP = 3,   /* toward positive infinity: the least that is not below it */
+    PK_ROUND_AWAY = 4  /* to the nearest; of two that are equally near, the one that is greater in magnitude */
 };
 
 /* The operations of the list call. */
@@ -95,6 +115,8 @@ uint64_t pk_sqrt64(uint64_t x);
 uint32_t pk_sqrt32(uint32_t x);
 uint64_t pk_sqrt64_flags(uint64_t x, uint32_t *flags);
 uint32_t pk_sqrt32_flags(uint32_t x, uint32_t *flags);
+uint32_t pk_sqrt64_rounded(uint32_t attribute, uint64_t x, uint64_t *value, uint32_t *flags);
+uint32_t pk_sqrt32_rounded(uint32_t attribute, uint32_t x, uint32_t *value, uint32_t *flags);
 
 /* floor: the greatest whole number that is not above x, exactly.
    Zeros of either sign and infinities are returned as they are. A NaN gives the canonical NaN. Between 0 and 1 the answer
@@ -118,7 +140,7 @@ uint32_t pk_trunc32_flags(uint32_t x, uint32_t *flags);
 /* fma: x times y plus z, rounded once.
    The canonical NaN if any operand is a NaN, if a zero is multiplied by an infinity, or if an infinite product meets an
    infinite z of the other sign. Otherwise an infinite product, or else an infinite z, is the answer. An exact sum of zero
-   is +0, except where product and z are zeros of one sign: then it is that zero.
+   is +0, under PK_ROUND_DOWN -0, except where product and z are zeros of one sign: then it is that zero.
    Flags: PK_INVALID if any operand is a signalling NaN, if a zero is multiplied by an infinity, also where z is a quiet NaN,
    or if an infinite product meets an infinite z of the other sign. For finite operands PK_INEXACT, PK_OVERFLOW and
    PK_UNDERFLOW as the sum is rounded. */
@@ -126,6 +148,8 @@ uint64_t pk_fma64(uint64_t x, uint64_t y, uint64_t z);
 uint32_t pk_fma32(uint32_t x, uint32_t y, uint32_t z);
 uint64_t pk_fma64_flags(uint64_t x, uint64_t y, uint64_t z, uint32_t *flags);
 uint32_t pk_fma32_flags(uint32_t x, uint32_t y, uint32_t z, uint32_t *flags);
+uint32_t pk_fma64_rounded(uint32_t attribute, uint64_t x, uint64_t y, uint64_t z, uint64_t *value, uint32_t *flags);
+uint32_t pk_fma32_rounded(uint32_t attribute, uint32_t x, uint32_t y, uint32_t z, uint32_t *value, uint32_t *flags);
 
 /* scalbn: x times 2^n, for every n, rounded once.
    Zeros of either sign and infinities are returned as they are. A NaN gives the canonical NaN.
@@ -134,6 +158,8 @@ uint64_t pk_scalbn64(uint64_t x, int32_t n);
 uint32_t pk_scalbn32(uint32_t x, int32_t n);
 uint64_t pk_scalbn64_flags(uint64_t x, int32_t n, uint32_t *flags);
 uint32_t pk_scalbn32_flags(uint32_t x, int32_t n, uint32_t *flags);
+uint32_t pk_scalbn64_rounded(uint32_t attribute, uint64_t x, int32_t n, uint64_t *value, uint32_t *flags);
+uint32_t pk_scalbn32_rounded(uint32_t attribute, uint32_t x, int32_t n, uint32_t *value, uint32_t *flags);
 
 /* fmod: x minus trunc(x / y) times y, exactly, where x / y is the exact quotient. It has the sign of x, as a zero too.
    The canonical NaN if x is a NaN or infinite, or if y is a NaN or zero. Otherwise x itself where |x| < |y|, so for every
@@ -236,6 +262,44 @@ static inline float pk_scalbnf_flags(float x, int n, uint32_t *flags) {
     return pk_number32(pk_scalbn32_flags(pk_pattern32(x), n, flags));
 }
 
+/* The same under an attribute. What a refusal writes is the number +0. */
+static inline uint32_t pk_sqrt_rounded(uint32_t attribute, double x, double *value, uint32_t *flags) {
+    uint64_t bits;
+    uint32_t refusal = pk_sqrt64_rounded(attribute, pk_pattern64(x), &bits, flags);
+    *value = pk_number64(bits);
+    return refusal;
+}
+static inline uint32_t pk_sqrtf_rounded(uint32_t attribute, float x, float *value, uint32_t *flags) {
+    uint32_t bits;
+    uint32_t refusal = pk_sqrt32_rounded(attribute, pk_pattern32(x), &bits, flags);
+    *value = pk_number32(bits);
+    return refusal;
+}
+static inline uint32_t pk_fma_rounded(uint32_t attribute, double x, double y, double z, double *value, uint32_t *flags) {
+    uint64_t bits;
+    uint32_t refusal = pk_fma64_rounded(attribute, pk_pattern64(x), pk_pattern64(y), pk_pattern64(z), &bits, flags);
+    *value = pk_number64(bits);
+    return refusal;
+}
+static inline uint32_t pk_fmaf_rounded(uint32_t attribute, float x, float y, float z, float *value, uint32_t *flags) {
+    uint32_t bits;
+    uint32_t refusal = pk_fma32_rounded(attribute, pk_pattern32(x), pk_pattern32(y), pk_pattern32(z), &bits, flags);
+    *value = pk_number32(bits);
+    return refusal;
+}
+static inline uint32_t pk_scalbn_rounded(uint32_t attribute, double x, int n, double *value, uint32_t *flags) {
+    uint64_t bits;
+    uint32_t refusal = pk_scalbn64_rounded(attribute, pk_pattern64(x), n, &bits, flags);
+    *value = pk_number64(bits);
+    return refusal;
+}
+static inline uint32_t pk_scalbnf_rounded(uint32_t attribute, float x, int n, float *value, uint32_t *flags) {
+    uint32_t bits;
+    uint32_t refusal = pk_scalbn32_rounded(attribute, pk_pattern32(x), n, &bits, flags);
+    *value = pk_number32(bits);
+    return refusal;
+}
+
 /* ---- What does not compile
 
    pk_error_takes_a_pattern_not_a_number: a floating argument where a pattern or another whole number is taken.
@@ -292,6 +356,8 @@ PK_CHECKED_(pk_floor64); PK_CHECKED_(pk_floor32); PK_CHECKED_(pk_floor64_flags);
 PK_CHECKED_(pk_trunc64); PK_CHECKED_(pk_trunc32); PK_CHECKED_(pk_trunc64_flags); PK_CHECKED_(pk_trunc32_flags);
 PK_CHECKED_(pk_fma64); PK_CHECKED_(pk_fma32); PK_CHECKED_(pk_fma64_flags); PK_CHECKED_(pk_fma32_flags);
 PK_CHECKED_(pk_scalbn64); PK_CHECKED_(pk_scalbn32); PK_CHECKED_(pk_scalbn64_flags); PK_CHECKED_(pk_scalbn32_flags);
+PK_CHECKED_(pk_sqrt64_rounded); PK_CHECKED_(pk_sqrt32_rounded); PK_CHECKED_(pk_fma64_rounded); PK_CHECKED_(pk_fma32_rounded);
+PK_CHECKED_(pk_scalbn64_rounded); PK_CHECKED_(pk_scalbn32_rounded);
 PK_CHECKED_(pk_fmod64); PK_CHECKED_(pk_fmod32); PK_CHECKED_(pk_remquo64);
 PK_CHECKED_(pk_reduce64); PK_CHECKED_(pk_reduce32);
 PK_CHECKED_(pk_pattern64); PK_CHECKED_(pk_pattern32); PK_CHECKED_(pk_number64); PK_CHECKED_(pk_number32);
@@ -300,6 +366,8 @@ PK_CHECKED_(pk_floor); PK_CHECKED_(pk_floorf); PK_CHECKED_(pk_floor_flags); PK_C
 PK_CHECKED_(pk_trunc); PK_CHECKED_(pk_truncf); PK_CHECKED_(pk_trunc_flags); PK_CHECKED_(pk_truncf_flags);
 PK_CHECKED_(pk_fma); PK_CHECKED_(pk_fmaf); PK_CHECKED_(pk_fma_flags); PK_CHECKED_(pk_fmaf_flags);
 PK_CHECKED_(pk_scalbn); PK_CHECKED_(pk_scalbnf); PK_CHECKED_(pk_scalbn_flags); PK_CHECKED_(pk_scalbnf_flags);
+PK_CHECKED_(pk_sqrt_rounded); PK_CHECKED_(pk_sqrtf_rounded); PK_CHECKED_(pk_fma_rounded); PK_CHECKED_(pk_fmaf_rounded);
+PK_CHECKED_(pk_scalbn_rounded); PK_CHECKED_(pk_scalbnf_rounded);
 PK_CHECKED_(pk_fmod); PK_CHECKED_(pk_fmodf); PK_CHECKED_(pk_remquo);
 #undef PK_CHECKED_
 #undef PK_REFUSED_
@@ -343,6 +411,8 @@ struct pk_error_takes_nothing_wider { char unused; };
 #define pk_sqrt32(x) pk_sqrt32(PK_32_(x))
 #define pk_sqrt64_flags(x, flags) pk_sqrt64_flags(PK_64_(x), flags)
 #define pk_sqrt32_flags(x, flags) pk_sqrt32_flags(PK_32_(x), flags)
+#define pk_sqrt64_rounded(attribute, x, value, flags) pk_sqrt64_rounded(PK_32_(attribute), PK_64_(x), value, flags)
+#define pk_sqrt32_rounded(attribute, x, value, flags) pk_sqrt32_rounded(PK_32_(attribute), PK_32_(x), value, flags)
 #define pk_floor64(x) pk_floor64(PK_64_(x))
 #define pk_floor32(x) pk_floor32(PK_32_(x))
 #define pk_floor64_flags(x, flags) pk_floor64_flags(PK_64_(x), flags)
@@ -355,10 +425,18 @@ struct pk_error_takes_nothing_wider { char unused; };
 #define pk_fma32(x, y, z) pk_fma32(PK_32_(x), PK_32_(y), PK_32_(z))
 #define pk_fma64_flags(x, y, z, flags) pk_fma64_flags(PK_64_(x), PK_64_(y), PK_64_(z), flags)
 #define pk_fma32_flags(x, y, z, flags) pk_fma32_flags(PK_32_(x), PK_32_(y), PK_32_(z), flags)
+#define pk_fma64_rounded(attribute, x, y, z, value, flags) \
+    pk_fma64_rounded(PK_32_(attribute), PK_64_(x), PK_64_(y), PK_64_(z), value, flags)
+#define pk_fma32_rounded(attribute, x, y, z, value, flags) \
+    pk_fma32_rounded(PK_32_(attribute), PK_32_(x), PK_32_(y), PK_32_(z), value, flags)
 #define pk_scalbn64(x, n) pk_scalbn64(PK_64_(x), PK_INT_(n))
 #define pk_scalbn32(x, n) pk_scalbn32(PK_32_(x), PK_INT_(n))
 #define pk_scalbn64_flags(x, n, flags) pk_scalbn64_flags(PK_64_(x), PK_INT_(n), flags)
 #define pk_scalbn32_flags(x, n, flags) pk_scalbn32_flags(PK_32_(x), PK_INT_(n), flags)
+#define pk_scalbn64_rounded(attribute, x, n, value, flags) \
+    pk_scalbn64_rounded(PK_32_(attribute), PK_64_(x), PK_INT_(n), value, flags)
+#define pk_scalbn32_rounded(attribute, x, n, value, flags) \
+    pk_scalbn32_rounded(PK_32_(attribute), PK_32_(x), PK_INT_(n), value, flags)
 #define pk_fmod64(x, y) pk_fmod64(PK_64_(x), PK_64_(y))
 #define pk_fmod32(x, y) pk_fmod32(PK_32_(x), PK_32_(y))
 #define pk_remquo64(x, y, quotient) pk_remquo64(PK_64_(x), PK_64_(y), quotient)
@@ -373,6 +451,8 @@ struct pk_error_takes_nothing_wider { char unused; };
 #define pk_sqrtf(x) pk_sqrtf(PK_FLOAT_(x))
 #define pk_sqrt_flags(x, flags) pk_sqrt_flags(PK_DOUBLE_(x), flags)
 #define pk_sqrtf_flags(x, flags) pk_sqrtf_flags(PK_FLOAT_(x), flags)
+#define pk_sqrt_rounded(attribute, x, value, flags) pk_sqrt_rounded(PK_32_(attribute), PK_DOUBLE_(x), value, flags)
+#define pk_sqrtf_rounded(attribute, x, value, flags) pk_sqrtf_rounded(PK_32_(attribute), PK_FLOAT_(x), value, flags)
 #define pk_floor(x) pk_floor(PK_DOUBLE_(x))
 #define pk_floorf(x) pk_floorf(PK_FLOAT_(x))
 #define pk_floor_flags(x, flags) pk_floor_flags(PK_DOUBLE_(x), flags)
@@ -385,10 +465,18 @@ struct pk_error_takes_nothing_wider { char unused; };
 #define pk_fmaf(x, y, z) pk_fmaf(PK_FLOAT_(x), PK_FLOAT_(y), PK_FLOAT_(z))
 #define pk_fma_flags(x, y, z, flags) pk_fma_flags(PK_DOUBLE_(x), PK_DOUBLE_(y), PK_DOUBLE_(z), flags)
 #define pk_fmaf_flags(x, y, z, flags) pk_fmaf_flags(PK_FLOAT_(x), PK_FLOAT_(y), PK_FLOAT_(z), flags)
+#define pk_fma_rounded(attribute, x, y, z, value, flags) \
+    pk_fma_rounded(PK_32_(attribute), PK_DOUBLE_(x), PK_DOUBLE_(y), PK_DOUBLE_(z), value, flags)
+#define pk_fmaf_rounded(attribute, x, y, z, value, flags) \
+    pk_fmaf_rounded(PK_32_(attribute), PK_FLOAT_(x), PK_FLOAT_(y), PK_FLOAT_(z), value, flags)
 #define pk_scalbn(x, n) pk_scalbn(PK_DOUBLE_(x), PK_INT_(n))
 #define pk_scalbnf(x, n) pk_scalbnf(PK_FLOAT_(x), PK_INT_(n))
 #define pk_scalbn_flags(x, n, flags) pk_scalbn_flags(PK_DOUBLE_(x), PK_INT_(n), flags)
 #define pk_scalbnf_flags(x, n, flags) pk_scalbnf_flags(PK_FLOAT_(x), PK_INT_(n), flags)
+#define pk_scalbn_rounded(attribute, x, n, value, flags) \
+    pk_scalbn_rounded(PK_32_(attribute), PK_DOUBLE_(x), PK_INT_(n), value, flags)
+#define pk_scalbnf_rounded(attribute, x, n, value, flags) \
+    pk_scalbnf_rounded(PK_32_(attribute), PK_FLOAT_(x), PK_INT_(n), value, flags)
 #define pk_fmod(x, y) pk_fmod(PK_DOUBLE_(x), PK_DOUBLE_(y))
 #define pk_fmodf(x, y) pk_fmodf(PK_FLOAT_(x), PK_FLOAT_(y))
 #define pk_remquo(x, y, quotient) pk_remquo(PK_DOUBLE_(x), PK_DOUBLE_(y), quotient)

@@ -67,6 +67,27 @@ static void rounded_once(void) {
     write_flags(all);
 }
 
+/* Under an attribute value and flags go out through pointers, and a number that is no attribute is refused. */
+static void under(const char *name, uint32_t attribute, uint64_t x) {
+    uint64_t root;
+    uint32_t flags, refusal = pk_sqrt64_rounded(attribute, x, &root, &flags);
+    printf("sqrt64.%s " P64 " -> %" PRIu32 " " P64, name, x, refusal, root);
+    write_flags(flags);
+    if (refusal == PK_UNKNOWN_ATTRIBUTE) printf("# refused: %" PRIu32 " is no attribute\n", attribute);
+}
+
+/* A tolerance band: no two numbers that hold the exact root between them are nearer to each other. */
+static void band(double x) {
+    double lower, upper;
+    uint32_t flags;
+    under("down", PK_ROUND_DOWN, pk_pattern64(x));
+    under("up", PK_ROUND_UP, pk_pattern64(x));
+    under("7", 7, pk_pattern64(x));
+    if (pk_sqrt_rounded(PK_ROUND_DOWN, x, &lower, &flags) != PK_DONE) return;
+    if (pk_sqrt_rounded(PK_ROUND_UP, x, &upper, &flags) != PK_DONE) return;
+    printf("# the root of %g lies from %.17g to %.17g\n", x, lower, upper);
+}
+
 /* A remainder, with its quotient. */
 static void remainders(double x, double y) {
     int quotient;
@@ -96,6 +117,7 @@ int main(void) {
     values();
     floors(-2.5);
     rounded_once();
+    band(2.0);
     remainders(-7.0, 2.0);
     reduction(1, 4096, 7);
     reduction(1, 4097, 3);

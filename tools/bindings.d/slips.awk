@@ -6,6 +6,7 @@ BEGIN {
     right["uint64_t"] = "a_uint64"; right["uint32_t"] = "a_uint32"; right["int32_t"] = "an_int"; right["int"] = "an_int"
     right["double"] = "a_double"; right["float"] = "a_float"
     right["uint64_t *"] = "&a_uint64"; right["uint32_t *"] = "&a_uint32"; right["int32_t *"] = "&an_int"; right["int *"] = "&an_int"
+    right["double *"] = "&a_double"; right["float *"] = "&a_float"
     number = "pk_error_takes_a_pattern_not_a_number"
     pattern = "pk_error_takes_a_number_not_a_pattern"
     wider = "pk_error_takes_nothing_wider"

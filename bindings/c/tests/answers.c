@@ -1,6 +1,7 @@
 /* Holds the C functions to the claims on standard input, which are lines as docs/LINES.md has them, on patterns and on
    numbers, under each of the four rounding modes: the same answer, bit for bit, with no floating-point flag of the processor
-   raised and the mode as it was. Every operation must have a line. Exit status: 0 all is as it must be, 1 something is not. */
+   raised and the mode as it was. Every operation must have a line, and every one that rounds a line under each attribute and
+   one that is refused. Exit status: 0 all is as it must be, 1 something is not. */
 #include <fenv.h>
 #include <inttypes.h>
 #include <stdio.h>
@@ -14,9 +15,16 @@
 #define LONGEST (3 * 17 * PLACES + 100)
 #define FIELDS 5
 
-static const char *const names[] = {"sqrt64", "sqrt32", "floor64", "floor32", "trunc64", "trunc32", "scalbn64", "scalbn32",
-                                    "fma64", "fma32", "fmod64", "fmod32", "remquo64", "reduce64", "reduce32", "list64"};
+/* Those that take an attribute come first. */
+static const char *const names[] = {"sqrt64", "sqrt32", "scalbn64", "scalbn32", "fma64", "fma32", "floor64", "floor32",
+                                    "trunc64", "trunc32", "fmod64", "fmod32", "remquo64", "reduce64", "reduce32", "list64"};
 #define NAMES (sizeof names / sizeof names[0])
+#define ROUNDED 6
+/* What may stand behind a name: an attribute, nothing, or the number of no attribute. */
+enum { ATTRIBUTES = PK_ROUND_AWAY + 1, NOTHING = ATTRIBUTES, REFUSED, ENDINGS };
+static const char *const endings[ENDINGS] = {[PK_ROUND_EVEN] = ".even", [PK_ROUND_ZERO] = ".zero",
+                                             [PK_ROUND_DOWN] = ".down", [PK_ROUND_UP] = ".up", [PK_ROUND_AWAY] = ".away",
+                                             [NOTHING] = "", [REFUSED] = ".NUMBER"};
 
 static char line[LONGEST], request[LONGEST], said[LONGEST];
 static uint64_t xs[PLACES], ys[PLACES];
@@ -46,6 +54,8 @@ static uint32_t raised;
 static int32_t quotient;
 static uint64_t value64;
 static uint32_t value32;
+static double number64;
+static float number32;
 
 static void give64(uint64_t value) { sprintf(said, "%016" PRIx64, value); }
 static void give32(uint32_t value) { sprintf(said, "%08" PRIx32, value); }
@@ -63,6 +73,8 @@ static void flags32(uint32_t alone, uint32_t value) {
 static void give_quotient(uint64_t value, int32_t n) { sprintf(said, "%016" PRIx64 " %" PRId32, value, n); }
 static void refusal64(uint32_t refusal) { sprintf(said, "%" PRIu32 " %016" PRIx64, refusal, value64); }
 static void refusal32(uint32_t refusal) { sprintf(said, "%" PRIu32 " %08" PRIx32, refusal, value32); }
+static void rounded64(uint32_t refusal) { refusal64(refusal), add_flags(raised); }
+static void rounded32(uint32_t refusal) { refusal32(refusal), add_flags(raised); }
 
 static size_t read_list(const char *text, uint64_t *places) {
     size_t n = 0;
@@ -84,8 +96,13 @@ static void list(uint32_t op, const char *input, const char *output) {
 /* ---- a request, by its fields */
 static char *field[FIELDS];
 static int fields;
+/* The number of the attribute that stood behind the name, and which ending that was. */
+static uint32_t attribute;
+static size_t ending;
 
-static int is(const char *name, int operands) { return strcmp(field[0], name) == 0 && fields == operands + 1; }
+static int named(const char *name, int operands) { return strcmp(field[0], name) == 0 && fields == operands + 1; }
+static int is(const char *name, int operands) { return ending == NOTHING && named(name, operands); }
+static int under(const char *name, int operands) { return ending != NOTHING && named(name, operands); }
 
 /* Operand i as a word, and as the number of that pattern. */
 static uint64_t W(int i) { return i < fields ? strtoull(field[i], NULL, 16) : 0; }
@@ -116,11 +133,19 @@ static void on_patterns(void) {
     if (is("reduce64", 3)) refusal64(pk_reduce64(W(1), u(2), W(3), &value64));
     if (is("reduce32", 3)) refusal32(pk_reduce32(w(1), u(2), w(3), &value32));
     if (is("list64", 3)) list(u(1), field[2], field[3]);
+    if (under("sqrt64", 1)) rounded64(pk_sqrt64_rounded(attribute, W(1), &value64, &raised));
+    if (under("sqrt32", 1)) rounded32(pk_sqrt32_rounded(attribute, w(1), &value32, &raised));
+    if (under("scalbn64", 2)) rounded64(pk_scalbn64_rounded(attribute, W(1), n(2), &value64, &raised));
+    if (under("scalbn32", 2)) rounded32(pk_scalbn32_rounded(attribute, w(1), n(2), &value32, &raised));
+    if (under("fma64", 3)) rounded64(pk_fma64_rounded(attribute, W(1), W(2), W(3), &value64, &raised));
+    if (under("fma32", 3)) rounded32(pk_fma32_rounded(attribute, w(1), w(2), w(3), &value32, &raised));
 }
 
 /* The patterns of what numbers give. */
 static uint64_t P(double x) { return pk_pattern64(x); }
 static uint32_t p(float x) { return pk_pattern32(x); }
+static void double_rounded(uint32_t refusal) { value64 = P(number64), rounded64(refusal); }
+static void float_rounded(uint32_t refusal) { value32 = p(number32), rounded32(refusal); }
 
 /* The same on numbers, where there is such a function. */
 static void on_numbers(void) {
@@ -141,11 +166,18 @@ static void on_numbers(void) {
         double value = pk_remquo(D(1), D(2), &q);
         give_quotient(P(value), q);
     }
+    if (under("sqrt64", 1)) double_rounded(pk_sqrt_rounded(attribute, D(1), &number64, &raised));
+    if (under("sqrt32", 1)) float_rounded(pk_sqrtf_rounded(attribute, d(1), &number32, &raised));
+    if (under("scalbn64", 2)) double_rounded(pk_scalbn_rounded(attribute, D(1), n(2), &number64, &raised));
+    if (under("scalbn32", 2)) float_rounded(pk_scalbnf_rounded(attribute, d(1), n(2), &number32, &raised));
+    if (under("fma64", 3)) double_rounded(pk_fma_rounded(attribute, D(1), D(2), D(3), &number64, &raised));
+    if (under("fma32", 3)) float_rounded(pk_fmaf_rounded(attribute, d(1), d(2), d(3), &number32, &raised));
 }
 
 /* ---- a claim, under one rounding mode and under all */
 static int holds(void (*answer)(void), const char *wanted, int mode) {
     raised = UINT32_MAX, quotient = INT32_MIN, value64 = UINT64_MAX, value32 = UINT32_MAX;
+    number64 = pk_number64(value64), number32 = pk_number32(value32);
     if (fesetround(mode) != 0) return 0;
     feclearexcept(FE_ALL_EXCEPT);
     answer();
@@ -163,7 +195,21 @@ static void split(char *text) {
     }
 }
 
-static long count[NAMES];
+/* Takes an attribute, by its name or its number, off the operation's name. What is neither stays: nothing has that name. */
+static void take_attribute(void) {
+    char *dot = strchr(field[0], '.'), *rest;
+    ending = NOTHING;
+    if (dot == NULL) return;
+    for (attribute = 0; attribute < ATTRIBUTES && strcmp(dot, endings[attribute]) != 0;) attribute++;
+    if (attribute == ATTRIBUTES) {
+        attribute = (uint32_t)strtoul(dot + 1, &rest, 10);
+        if (rest == dot + 1 || *rest != '\0') return;
+    }
+    ending = attribute < ATTRIBUTES ? attribute : REFUSED;
+    *dot = '\0';
+}
+
+static long count[NAMES][ENDINGS];
 
 /* Whether a line is a claim that holds under every mode; if not it says so. */
 static int claimed(void) {
@@ -177,7 +223,8 @@ static int claimed(void) {
     memcpy(request, line, (size_t)(arrow - line));
     request[arrow - line] = '\0';
     split(request);
-    for (i = 0; i < NAMES; i++) count[i] += strcmp(field[0], names[i]) == 0;
+    take_attribute();
+    for (i = 0; i < NAMES; i++) count[i][ending] += strcmp(field[0], names[i]) == 0;
     for (i = 0; i < sizeof modes / sizeof modes[0]; i++) {
         strcpy(said, "no request");
         /* where numbers have no function, what patterns gave stands */
@@ -188,20 +235,29 @@ static int claimed(void) {
     return 1;
 }
 
+/* How many of the lines that there must be are not there. */
+static long lacking(void) {
+    long lacks = 0;
+    size_t i, j;
+    for (i = 0; i < NAMES; i++) {
+        for (j = 0; j < ENDINGS; j++) {
+            if (count[i][j] > 0 || (i >= ROUNDED && j != NOTHING)) continue;
+            printf("no line for: %s%s\n", names[i], endings[j]);
+            lacks++;
+        }
+    }
+    return lacks;
+}
+
 int main(void) {
     long lines = 0, differences = 0;
-    size_t i;
     while (fgets(line, sizeof line, stdin) != NULL) {
         line[strcspn(line, "\n")] = '\0';
         if (line[0] == '#' || line[0] == '\0') continue;
         lines++;
         differences += !claimed();
     }
-    for (i = 0; i < NAMES; i++) {
-        if (count[i] > 0) continue;
-        printf("no line for: %s\n", names[i]);
-        differences++;
-    }
+    differences += lacking();
     printf("%ld lines under 4 rounding modes, on patterns and on numbers, %ld differences\n", lines, differences);
     return differences != 0;
 }

@@ -1,5 +1,5 @@
 /* The calls that refuse, at their limits and by the names of the header: what is refused, what is done, and which places
-   of the lists are written. Exit status: 0 all is as it must be, 1 something is not. */
+   are written. Exit status: 0 all is as it must be, 1 something is not. */
 #include <stdio.h>
 
 #include "paskerotim.h"
@@ -92,12 +92,92 @@ static void reductions(void) {
     reduce32("both reasons at 32", PK_OUT_OF_RANGE, 0, 6, PK_SHIFT_LIMIT + 1, 3);
 }
 
+/* ---- a call under an attribute: value and flags, which are written on a refusal too, and nothing beside them. The operands
+   are exact, and so the answer is one under every attribute: the root of 4, 1 times 1 plus 1, and 1 times 2^1, all 2. */
+#define TWO UINT64_C(0x4000000000000000)
+#define TWO32 UINT32_C(0x40000000)
+
+static uint64_t values[3];
+static uint32_t values32[3], flags[3];
+
+static double number;
+static float number32;
+
+static void spoil(void) {
+    int i;
+    for (i = 0; i < 3; i++) {
+        values[i] = UNTOUCHED;
+        values32[i] = flags[i] = UNTOUCHED32;
+    }
+    number = pk_number64(UNTOUCHED), number32 = pk_number32(UNTOUCHED32);
+}
+
+static int known(uint32_t attribute) { return attribute <= PK_ROUND_AWAY; }
+
+static void gave(const char *what, uint32_t attribute, uint32_t refusal, int value_holds) {
+    expect(known(attribute) ? refusal == PK_DONE : refusal == PK_UNKNOWN_ATTRIBUTE, what);
+    expect(value_holds && flags[1] == PK_OK, what);
+    expect(values[0] == UNTOUCHED && values[2] == UNTOUCHED, what);
+    expect(values32[0] == UNTOUCHED32 && values32[2] == UNTOUCHED32, what);
+    expect(flags[0] == UNTOUCHED32 && flags[2] == UNTOUCHED32, what);
+    spoil();
+}
+static void gave64(const char *what, uint32_t attribute, uint32_t refusal) {
+    gave(what, attribute, refusal, values[1] == (known(attribute) ? TWO : 0));
+}
+static void gave32(const char *what, uint32_t attribute, uint32_t refusal) {
+    gave(what, attribute, refusal, values32[1] == (known(attribute) ? TWO32 : 0));
+}
+static void gave_double(const char *what, uint32_t attribute, uint32_t refusal) {
+    values[1] = pk_pattern64(number);
+    gave64(what, attribute, refusal);
+}
+static void gave_float(const char *what, uint32_t attribute, uint32_t refusal) {
+    values32[1] = pk_pattern32(number32);
+    gave32(what, attribute, refusal);
+}
+
+static void on_patterns(uint32_t a) {
+    uint64_t one = pk_pattern64(1.0), four = pk_pattern64(4.0), *value = &values[1];
+    uint32_t one32 = pk_pattern32(1.0f), four32 = pk_pattern32(4.0f), *value32 = &values32[1], *raised = &flags[1];
+    gave64("sqrt at 64", a, pk_sqrt64_rounded(a, four, value, raised));
+    gave32("sqrt at 32", a, pk_sqrt32_rounded(a, four32, value32, raised));
+    gave64("fma at 64", a, pk_fma64_rounded(a, one, one, one, value, raised));
+    gave32("fma at 32", a, pk_fma32_rounded(a, one32, one32, one32, value32, raised));
+    gave64("scalbn at 64", a, pk_scalbn64_rounded(a, one, 1, value, raised));
+    gave32("scalbn at 32", a, pk_scalbn32_rounded(a, one32, 1, value32, raised));
+}
+
+static void on_numbers(uint32_t a) {
+    uint32_t *raised = &flags[1];
+    gave_double("sqrt of a double", a, pk_sqrt_rounded(a, 4.0, &number, raised));
+    gave_float("sqrt of a float", a, pk_sqrtf_rounded(a, 4.0f, &number32, raised));
+    gave_double("fma of doubles", a, pk_fma_rounded(a, 1.0, 1.0, 1.0, &number, raised));
+    gave_float("fma of floats", a, pk_fmaf_rounded(a, 1.0f, 1.0f, 1.0f, &number32, raised));
+    gave_double("scalbn of a double", a, pk_scalbn_rounded(a, 1.0, 1, &number, raised));
+    gave_float("scalbn of a float", a, pk_scalbnf_rounded(a, 1.0f, 1, &number32, raised));
+}
+
+static void attributes(void) {
+    static const uint32_t all[] = {PK_ROUND_EVEN, PK_ROUND_ZERO, PK_ROUND_DOWN, PK_ROUND_UP, PK_ROUND_AWAY, 5, 6, 7, 10, 256,
+                                   UINT32_C(1) << 31, (UINT32_C(1) << 31) + PK_ROUND_UP, UINT32_MAX};
+    size_t i;
+    spoil();
+    for (i = 0; i < sizeof all / sizeof all[0]; i++) {
+        on_patterns(all[i]);
+        on_numbers(all[i]);
+    }
+}
+
 /* ---- the numbers that the names of the header stand for */
 static void numbers(void) {
     expect(PK_OK == 0 && PK_INVALID == 1 && PK_DIVBYZERO == 4, "the flags 0 to 4");
     expect(PK_OVERFLOW == 8 && PK_UNDERFLOW == 16 && PK_INEXACT == 32, "the flags 8 to 32");
     expect(PK_DONE == 0 && PK_UNKNOWN_OPERATION == 1 && PK_LIST_TOO_LONG == 2, "the refusals 0 to 2");
     expect(PK_LENGTHS_DIFFER == 3 && PK_OUT_OF_RANGE == 4 && PK_SHIFT_TOO_GREAT == 5, "the refusals 3 to 5");
+    expect(PK_UNKNOWN_ATTRIBUTE == 10, "the refusal 10");
+    expect(PK_ROUND_EVEN == 0 && PK_ROUND_ZERO == 1 && PK_ROUND_DOWN == 2, "the attributes 0 to 2");
+    expect(PK_ROUND_UP == 3 && PK_ROUND_AWAY == 4, "the attributes 3 and 4");
     expect(PK_LIST_SQRT == 1 && PK_LIST_FLOOR == 2 && PK_LIST_TRUNC == 3, "the operations of the list call");
     expect(PK_LIST_LIMIT == 8192 && PK_SHIFT_LIMIT == 4096, "the limits of places and of the shift");
     expect(PK_DIVISOR_LIMIT64 == (UINT64_C(1) << 62) - 1, "the limit of the divisor at 64");
@@ -114,6 +194,7 @@ int main(void) {
     no_operation(4);
     no_operation(UINT32_MAX);
     reductions();
+    attributes();
     numbers();
     printf("%d checks at the limits, %d failed\n", checks, failures);
     return failures != 0;

@@ -24,6 +24,7 @@ static uint32_t small(void) { return ++evaluated, pk_pattern32(2.0f); }
 static double number(void) { return ++evaluated, 2.0; }
 static float small_number(void) { return ++evaluated, 2.0f; }
 static int whole(void) { return ++evaluated, 1; }
+static uint32_t attribute(void) { return ++evaluated, (uint32_t)PK_ROUND_UP; }
 
 static void once(const char *what, int arguments) {
     expect(evaluated == arguments, what);
@@ -46,6 +47,24 @@ static void arguments_are_evaluated_once(void) {
     (void)pk_fma(number(), number(), number()), (void)pk_remquo(number(), number(), &n), once("doubles", 5);
     (void)pk_fmaf_flags(small_number(), small_number(), small_number(), &flags), once("floats", 3);
     (void)pk_scalbn(number(), whole()), (void)pk_scalbnf(small_number(), whole()), once("a number and a whole number", 4);
+}
+
+static void arguments_under_an_attribute_are_evaluated_once(void) {
+    uint64_t value;
+    uint32_t flags, small_value;
+    double result;
+    float small_result;
+    evaluated = 0;
+    (void)pk_sqrt64_rounded(attribute(), wide(), &value, &flags), once("an attribute and a pattern of 64 bits", 2);
+    (void)pk_sqrt32_rounded(attribute(), small(), &small_value, &flags), once("an attribute and a pattern of 32 bits", 2);
+    (void)pk_fma64_rounded(attribute(), wide(), wide(), wide(), &value, &flags), once("and three of 64 bits", 4);
+    (void)pk_fma32_rounded(attribute(), small(), small(), small(), &small_value, &flags), once("and three of 32 bits", 4);
+    (void)pk_scalbn64_rounded(attribute(), wide(), whole(), &value, &flags), once("and a whole number, at 64 bits", 3);
+    (void)pk_scalbn32_rounded(attribute(), small(), whole(), &small_value, &flags), once("and a whole number, at 32 bits", 3);
+    (void)pk_sqrt_rounded(attribute(), number(), &result, &flags), once("and a double", 2);
+    (void)pk_fmaf_rounded(attribute(), small_number(), small_number(), small_number(), &small_result, &flags);
+    once("and three floats", 4);
+    (void)pk_scalbn_rounded(attribute(), number(), whole(), &result, &flags), once("and a double and a whole number", 3);
 }
 
 static void side_effects_happen_once(void) {
@@ -102,12 +121,31 @@ static void flags_have_their_place(void) {
     expect(flags[0] == 7 && flags[2] == 7, "the places beside");
 }
 
+/* ---- attributes: by a name of the header, in a variable of its type, as a narrower integer, and through a pointer */
+static void attributes_are_taken(void) {
+    enum pk_attribute way = PK_ROUND_DOWN;
+    unsigned char byte = PK_ROUND_UP;
+    uint32_t (*rounded)(uint32_t, uint64_t, uint64_t *, uint32_t *) = pk_sqrt64_rounded, flags;
+    uint64_t lower, upper, two = pk_pattern64(2.0);
+    double low, high;
+    float small_low;
+    expect(pk_sqrt64_rounded(way, two, &lower, &flags) == PK_DONE && lower == ROOT_OF_TWO - 1, "a variable");
+    expect(pk_sqrt64_rounded(byte, two, &upper, &flags) == PK_DONE && upper == ROOT_OF_TWO, "a byte");
+    expect(rounded(PK_ROUND_AWAY, two, &upper, &flags) == PK_DONE && upper == ROOT_OF_TWO, "a pointer to the function");
+    expect(pk_sqrt_rounded(PK_ROUND_DOWN, 2.0f, &low, &flags) == PK_DONE && low == pk_number64(lower), "a float for a double");
+    expect(pk_sqrt_rounded(3, 2.0, &high, &flags) == PK_DONE && low < high && flags == PK_INEXACT, "a number, and the band");
+    expect(pk_scalbnf_rounded(PK_ROUND_ZERO, -1.0f, 128, &small_low, &flags) == PK_DONE, "an overflow toward zero");
+    expect(pk_pattern32(small_low) == UINT32_C(0xff7fffff) && flags == (PK_OVERFLOW | PK_INEXACT), "its value and its flags");
+}
+
 int main(void) {
     arguments_are_evaluated_once();
+    arguments_under_an_attribute_are_evaluated_once();
     side_effects_happen_once();
     narrower_arguments_are_taken();
     names_are_functions();
     flags_have_their_place();
+    attributes_are_taken();
     printf("%d checks of uses, %d failed\n", checks, failures);
     return failures != 0;
 }
