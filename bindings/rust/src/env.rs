@@ -27,7 +27,9 @@ pub struct Flags {
     pub invalid: bool,
     /// Raised by no operation of this crate.
     pub division_by_zero: bool,
-    /// A finite value was rounded to infinity. It comes with `inexact`.
+    /// A finite value, rounded with no bound on the exponent, would be past the largest finite number:
+    /// the answer is infinity or, under an [`Attribute`](crate::Attribute), perhaps the largest
+    /// number. It comes with `inexact`.
     pub overflow: bool,
     /// The answer is inexact and the value is tiny: rounded with no bound on the exponent, it would
     /// lie below the least normal number in magnitude and not be zero. It comes with `inexact`.

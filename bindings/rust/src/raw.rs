@@ -5,14 +5,26 @@
 #![allow(unsafe_code)]
 
 // Safety of the block: the declarations are those of the archive's functions. Safety of the
-// functions that are marked safe: they take numbers and at most one place, are proved to end with an
-// answer for every number, and read and write no memory of the caller's but that place, which a
-// `&mut` makes valid, aligned and the call's own. None keeps it.
+// functions that are marked safe: they take numbers and at most two places, are proved to end with
+// an answer for every number, and read and write no memory of the caller's but those places, each
+// of which a `&mut` makes valid, aligned and the call's own. None keeps them.
 unsafe extern "C" {
     pub(crate) safe fn pk_sqrt64(x: u64) -> u64;
     pub(crate) safe fn pk_sqrt32(x: u32) -> u32;
     pub(crate) safe fn pk_sqrt64_flags(x: u64, flags: &mut u32) -> u64;
     pub(crate) safe fn pk_sqrt32_flags(x: u32, flags: &mut u32) -> u32;
+    pub(crate) safe fn pk_sqrt64_rounded(
+        attribute: u32,
+        x: u64,
+        value: &mut u64,
+        flags: &mut u32,
+    ) -> u32;
+    pub(crate) safe fn pk_sqrt32_rounded(
+        attribute: u32,
+        x: u32,
+        value: &mut u32,
+        flags: &mut u32,
+    ) -> u32;
     pub(crate) safe fn pk_floor64(x: u64) -> u64;
     pub(crate) safe fn pk_floor32(x: u32) -> u32;
     pub(crate) safe fn pk_floor64_flags(x: u64, flags: &mut u32) -> u64;
@@ -25,10 +37,40 @@ unsafe extern "C" {
     pub(crate) safe fn pk_fma32(x: u32, y: u32, z: u32) -> u32;
     pub(crate) safe fn pk_fma64_flags(x: u64, y: u64, z: u64, flags: &mut u32) -> u64;
     pub(crate) safe fn pk_fma32_flags(x: u32, y: u32, z: u32, flags: &mut u32) -> u32;
+    pub(crate) safe fn pk_fma64_rounded(
+        attribute: u32,
+        x: u64,
+        y: u64,
+        z: u64,
+        value: &mut u64,
+        flags: &mut u32,
+    ) -> u32;
+    pub(crate) safe fn pk_fma32_rounded(
+        attribute: u32,
+        x: u32,
+        y: u32,
+        z: u32,
+        value: &mut u32,
+        flags: &mut u32,
+    ) -> u32;
     pub(crate) safe fn pk_scalbn64(x: u64, n: i32) -> u64;
     pub(crate) safe fn pk_scalbn32(x: u32, n: i32) -> u32;
     pub(crate) safe fn pk_scalbn64_flags(x: u64, n: i32, flags: &mut u32) -> u64;
     pub(crate) safe fn pk_scalbn32_flags(x: u32, n: i32, flags: &mut u32) -> u32;
+    pub(crate) safe fn pk_scalbn64_rounded(
+        attribute: u32,
+        x: u64,
+        n: i32,
+        value: &mut u64,
+        flags: &mut u32,
+    ) -> u32;
+    pub(crate) safe fn pk_scalbn32_rounded(
+        attribute: u32,
+        x: u32,
+        n: i32,
+        value: &mut u32,
+        flags: &mut u32,
+    ) -> u32;
     pub(crate) safe fn pk_fmod64(x: u64, y: u64) -> u64;
     pub(crate) safe fn pk_fmod32(x: u32, y: u32) -> u32;
     pub(crate) safe fn pk_remquo64(x: u64, y: u64, quotient: &mut i32) -> u64;

@@ -1,7 +1,7 @@
 //! Scaling by a power of two.
 
 use crate::raw;
-use crate::Flags;
+use crate::{Attribute, Flags};
 
 /// `x` times 2^`n`, for every `n`, rounded once, on patterns of 64 bits.
 ///
@@ -37,6 +37,28 @@ pub fn scalbn32_flags(x: u32, n: i32) -> (u32, Flags) {
     Flags::of(|flags| raw::pk_scalbn32_flags(x, n, flags))
 }
 
+/// `x` times 2^`n`, for every `n`, rounded once under an attribute, with its flags. Of zeros,
+/// infinities and NaNs the answer is [`scalbn64_flags`]'s.
+///
+/// ```
+/// use paskerotim::{scalbn64_rounded, Attribute};
+///
+/// // 2^1024 is past the largest number, which is the answer where it may not be exceeded.
+/// let (down, flags) = scalbn64_rounded(Attribute::Down, 0x3ff0000000000000, 1024);
+/// assert_eq!((down, flags.to_string().as_str()), (0x7fefffffffffffff, "OVERFLOW+INEXACT"));
+/// let (up, _) = scalbn64_rounded(Attribute::Up, 0x3ff0000000000000, 1024);
+/// assert_eq!(up, 0x7ff0000000000000);
+/// ```
+pub fn scalbn64_rounded(attribute: Attribute, x: u64, n: i32) -> (u64, Flags) {
+    attribute.answer(|number, value, flags| raw::pk_scalbn64_rounded(number, x, n, value, flags))
+}
+
+/// `x` times 2^`n` on patterns of 32 bits, rounded once under an attribute, with its flags; see
+/// [`scalbn64_rounded`].
+pub fn scalbn32_rounded(attribute: Attribute, x: u32, n: i32) -> (u32, Flags) {
+    attribute.answer(|number, value, flags| raw::pk_scalbn32_rounded(number, x, n, value, flags))
+}
+
 /// [`scalbn64`] on numbers.
 pub fn scalbn(x: f64, n: i32) -> f64 {
     f64::from_bits(scalbn64(x.to_bits(), n))
@@ -56,5 +78,17 @@ pub fn scalbn_flags(x: f64, n: i32) -> (f64, Flags) {
 /// [`scalbn32_flags`] on numbers.
 pub fn scalbnf_flags(x: f32, n: i32) -> (f32, Flags) {
     let (value, flags) = scalbn32_flags(x.to_bits(), n);
+    (f32::from_bits(value), flags)
+}
+
+/// [`scalbn64_rounded`] on numbers.
+pub fn scalbn_rounded(attribute: Attribute, x: f64, n: i32) -> (f64, Flags) {
+    let (value, flags) = scalbn64_rounded(attribute, x.to_bits(), n);
+    (f64::from_bits(value), flags)
+}
+
+/// [`scalbn32_rounded`] on numbers.
+pub fn scalbnf_rounded(attribute: Attribute, x: f32, n: i32) -> (f32, Flags) {
+    let (value, flags) = scalbn32_rounded(attribute, x.to_bits(), n);
     (f32::from_bits(value), flags)
 }

@@ -1,7 +1,7 @@
 //! The square root.
 
 use crate::raw;
-use crate::Flags;
+use crate::{Attribute, Flags};
 
 /// The root of `x`, rounded once, on patterns of 64 bits.
 ///
@@ -42,6 +42,27 @@ pub fn sqrt32_flags(x: u32) -> (u32, Flags) {
     Flags::of(|flags| raw::pk_sqrt32_flags(x, flags))
 }
 
+/// The root of `x`, rounded once under an attribute, with its flags. Of what is no finite number
+/// above zero the answer is [`sqrt64_flags`]'s.
+///
+/// ```
+/// use paskerotim::{sqrt64_flags, sqrt64_rounded, Attribute};
+///
+/// let (root, flags) = sqrt64_rounded(Attribute::Down, 0x4000000000000000);
+/// assert_eq!((root, flags.inexact), (0x3ff6a09e667f3bcc, true));
+/// let even = sqrt64_rounded(Attribute::Even, 0x4000000000000000);
+/// assert_eq!(even, sqrt64_flags(0x4000000000000000));
+/// ```
+pub fn sqrt64_rounded(attribute: Attribute, x: u64) -> (u64, Flags) {
+    attribute.answer(|number, value, flags| raw::pk_sqrt64_rounded(number, x, value, flags))
+}
+
+/// The root of `x` on patterns of 32 bits, rounded once under an attribute, with its flags; see
+/// [`sqrt64_rounded`].
+pub fn sqrt32_rounded(attribute: Attribute, x: u32) -> (u32, Flags) {
+    attribute.answer(|number, value, flags| raw::pk_sqrt32_rounded(number, x, value, flags))
+}
+
 /// [`sqrt64`] on numbers.
 pub fn sqrt(x: f64) -> f64 {
     f64::from_bits(sqrt64(x.to_bits()))
@@ -61,5 +82,17 @@ pub fn sqrt_flags(x: f64) -> (f64, Flags) {
 /// [`sqrt32_flags`] on numbers.
 pub fn sqrtf_flags(x: f32) -> (f32, Flags) {
     let (value, flags) = sqrt32_flags(x.to_bits());
+    (f32::from_bits(value), flags)
+}
+
+/// [`sqrt64_rounded`] on numbers.
+pub fn sqrt_rounded(attribute: Attribute, x: f64) -> (f64, Flags) {
+    let (value, flags) = sqrt64_rounded(attribute, x.to_bits());
+    (f64::from_bits(value), flags)
+}
+
+/// [`sqrt32_rounded`] on numbers.
+pub fn sqrtf_rounded(attribute: Attribute, x: f32) -> (f32, Flags) {
+    let (value, flags) = sqrt32_rounded(attribute, x.to_bits());
     (f32::from_bits(value), flags)
 }

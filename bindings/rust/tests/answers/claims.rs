@@ -4,14 +4,69 @@ use std::path::PathBuf;
 use std::process::Command;
 
 /// A request and the answer that it must get.
+#[derive(Clone)]
 pub struct Claim {
     pub line: String,
     pub operation: String,
+    /// The number of the attribute, or of none, that the operation is to round under.
+    pub attribute: Option<u32>,
     pub operands: Operands,
     pub answer: String,
 }
 
+/// The attributes by their names in lines, each in the place of its number.
+pub const ATTRIBUTES: [&str; 5] = ["even", "zero", "down", "up", "away"];
+
+impl Claim {
+    fn of_line(line: &str) -> Self {
+        let (request, answer) = line.split_once(" -> ").expect("a claim");
+        let mut words = request.split(' ').map(str::to_string);
+        let name = words.next().unwrap();
+        let (operation, attribute) = match name.split_once('.') {
+            None => (name.as_str(), None),
+            Some((operation, attribute)) => (operation, Some(number_of(attribute))),
+        };
+        Self {
+            line: line.to_string(),
+            operation: operation.to_string(),
+            attribute,
+            operands: Operands(words.collect()),
+            answer: answer.to_string(),
+        }
+    }
+
+    /// What is asked to nearest even, asked without an attribute, and the other way round: the
+    /// answer is the same but for the number before it.
+    pub fn other_form(&self) -> Option<Self> {
+        let (attribute, answer) = match self.attribute {
+            Some(0) => (None, self.answer.strip_prefix("0 ")?.to_string()),
+            None if self.rounds() => (Some(0), format!("0 {}", self.answer)),
+            _ => return None,
+        };
+        Some(Self {
+            attribute,
+            answer,
+            ..self.clone()
+        })
+    }
+
+    fn rounds(&self) -> bool {
+        ["sqrt", "fma", "scalbn"]
+            .iter()
+            .any(|name| self.operation.starts_with(name))
+    }
+}
+
+/// The number of an attribute, which is written by its name or its number.
+fn number_of(attribute: &str) -> u32 {
+    match ATTRIBUTES.iter().position(|name| *name == attribute) {
+        Some(number) => number as u32,
+        None => attribute.parse().expect("an attribute"),
+    }
+}
+
 /// The operands of a request, as they are written.
+#[derive(Clone)]
 pub struct Operands(Vec<String>);
 
 impl Operands {
@@ -56,22 +111,9 @@ fn repository() -> PathBuf {
 }
 
 fn claims_in(text: &str) -> Vec<Claim> {
-    let lines = text
-        .lines()
-        .filter(|line| !line.is_empty() && !line.starts_with('#'));
-    lines
-        .map(|line| {
-            let (request, answer) = line.split_once(" -> ").expect("a claim");
-            let mut words = request.split(' ').map(str::to_string);
-            let operation = words.next().unwrap();
-            let operands = Operands(words.collect());
-            Claim {
-                line: line.to_string(),
-                operation,
-                operands,
-                answer: answer.to_string(),
-            }
-        })
+    text.lines()
+        .filter(|line| !line.is_empty() && !line.starts_with('#'))
+        .map(Claim::of_line)
         .collect()
 }
 
@@ -83,16 +125,9 @@ pub fn of_file(name: &str) -> Vec<Claim> {
     claims_in(&text)
 }
 
-/// The claims of tests/flags.lines that the functions answer: at widths 64 and 32, without an
-/// attribute or to nearest even. A call under an attribute has its number before the answer.
+/// The claims of tests/flags.lines that the functions answer: at widths 64 and 32.
 pub fn of_flags() -> Vec<Claim> {
     let mut claims = of_file("tests/flags.lines");
-    for claim in &mut claims {
-        if let Some(operation) = claim.operation.strip_suffix(".even") {
-            claim.operation = operation.to_string();
-            claim.answer = claim.answer.strip_prefix("0 ").expect("done").to_string();
-        }
-    }
     claims.retain(|claim| claim.operation.ends_with("64") || claim.operation.ends_with("32"));
     claims
 }

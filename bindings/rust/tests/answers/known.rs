@@ -5,9 +5,10 @@ use std::fmt::LowerHex;
 
 use paskerotim::*;
 
+use crate::attributes;
 use crate::claims::{self, list_text, Claim, Operands};
 
-fn hex<T: LowerHex>(word: T) -> String {
+pub fn hex<T: LowerHex>(word: T) -> String {
     format!("{word:0digits$x}", digits = 2 * size_of::<T>())
 }
 
@@ -131,19 +132,35 @@ fn on_numbers(operation: &str, o: &Operands) -> Option<String> {
     })
 }
 
-/// The lines that do not hold, and what is given.
+/// What is given on patterns, and on numbers where there is such a form.
+fn given(claim: &Claim) -> (String, Option<String>) {
+    let (operation, operands) = (claim.operation.as_str(), &claim.operands);
+    match claim.attribute {
+        None => (
+            on_patterns(operation, operands),
+            on_numbers(operation, operands),
+        ),
+        Some(number) => (
+            attributes::on_patterns(number, operation, operands),
+            Some(attributes::on_numbers(number, operation, operands)),
+        ),
+    }
+}
+
+/// The lines that do not hold, in their own form or in the other one of nearest even, and what is
+/// given.
 fn differences(claims: &[Claim]) -> Vec<String> {
     let mut found = Vec::new();
-    for claim in claims {
-        let patterns = on_patterns(&claim.operation, &claim.operands);
-        if patterns != claim.answer {
-            found.push(format!("{}; on patterns {patterns}", claim.line));
-        }
-        let Some(numbers) = on_numbers(&claim.operation, &claim.operands) else {
-            continue;
-        };
-        if numbers != claim.answer {
-            found.push(format!("{}; on numbers {numbers}", claim.line));
+    for claim in claims.iter().cloned() {
+        let other = claim.other_form();
+        for claim in [claim].into_iter().chain(other) {
+            let (patterns, numbers) = given(&claim);
+            if patterns != claim.answer {
+                found.push(format!("{}; on patterns {patterns}", claim.line));
+            }
+            if let Some(numbers) = numbers.filter(|numbers| *numbers != claim.answer) {
+                found.push(format!("{}; on numbers {numbers}", claim.line));
+            }
         }
     }
     found
@@ -159,6 +176,15 @@ fn all_hold(claims: &[Claim]) {
     );
 }
 
+/// Two threads go through them all at the same time.
+fn all_hold_in_two_threads(claims: &[Claim]) {
+    std::thread::scope(|threads| {
+        for _ in 0..2 {
+            threads.spawn(|| all_hold(claims));
+        }
+    });
+}
+
 #[test]
 fn the_worked_cases_hold() {
     all_hold(&claims::of_file("tests/scope.lines"));
@@ -166,7 +192,7 @@ fn the_worked_cases_hold() {
     all_hold(&claims::of_long_lists());
 }
 
-/// Every operation has some hundreds of lines. Two threads go through them all at the same time.
+/// Every operation has some hundreds of lines.
 #[test]
 fn the_recorded_cases_hold() {
     let claims = claims::of_file("tests/cases.lines");
@@ -176,31 +202,31 @@ fn the_recorded_cases_hold() {
     }
     assert_eq!(counts.len(), 16);
     assert!(counts.values().all(|count| *count >= 200), "{counts:?}");
-    std::thread::scope(|threads| {
-        for _ in 0..2 {
-            threads.spawn(|| all_hold(&claims));
-        }
-    });
+    all_hold_in_two_threads(&claims);
     println!(
         "{} recorded cases, on patterns and on numbers, in 2 threads",
         claims.len()
     );
 }
 
-/// Every operation that has flags, at either width, with every flag that it can raise.
+/// Every operation that has flags, at either width, without an attribute and under each, with every
+/// flag that it can raise.
 #[test]
 fn the_cases_of_flags_hold() {
     let claims = claims::of_flags();
     let mut found = BTreeMap::new();
     for claim in &claims {
-        let (_, flags) = claim.answer.split_once(' ').expect("flags");
+        if claim.attribute.is_some_and(|number| number > 4) {
+            continue;
+        }
+        let (_, flags) = claim.answer.rsplit_once(' ').expect("flags");
         let all = found
-            .entry(claim.operation.as_str())
+            .entry((claim.operation.as_str(), claim.attribute))
             .or_insert(String::new());
         all.push_str(flags);
     }
-    assert_eq!(found.len(), 10);
-    for (operation, all) in found {
+    assert_eq!(found.len(), 10 + 6 * claims::ATTRIBUTES.len());
+    for ((operation, attribute), all) in found {
         let rounds = operation.starts_with("fma") || operation.starts_with("scalbn");
         for (flag, raised) in [
             ("OK", true),
@@ -210,12 +236,16 @@ fn the_cases_of_flags_hold() {
             ("UNDERFLOW", rounds),
             ("INEXACT", true),
         ] {
-            assert_eq!(all.contains(flag), raised, "{operation} {flag}");
+            assert_eq!(
+                all.contains(flag),
+                raised,
+                "{operation} under {attribute:?}: {flag}"
+            );
         }
     }
-    all_hold(&claims);
+    all_hold_in_two_threads(&claims);
     println!(
-        "{} cases of flags, on patterns and on numbers",
+        "{} recorded cases of flags and attributes, on patterns and on numbers, in 2 threads",
         claims.len()
     );
 }

@@ -1,5 +1,6 @@
 //! The crate held to known answers, and at its limits.
 
+mod attributes;
 mod claims;
 mod flags;
 mod known;

@@ -2,6 +2,8 @@
 
 use paskerotim::*;
 
+use crate::attributes::ALL;
+
 const ONE64: u64 = 0x3ff0000000000000;
 const ONE32: u32 = 0x3f800000;
 
@@ -95,6 +97,26 @@ fn of_zero_times_infinity() {
         assert_eq!(fma32_flags(infinite, 0, nan), canonical(NAN32, true));
         assert_eq!(fma32_flags(nan, infinite, 0), canonical(NAN32, signals));
         assert_eq!(fma32_flags(0, nan, infinite), canonical(NAN32, signals));
+    }
+}
+
+#[test]
+fn of_calls_under_an_attribute() {
+    for attribute in ALL {
+        for (nan, signals) in NANS64 {
+            let wanted = canonical(NAN64, signals);
+            assert_eq!(sqrt64_rounded(attribute, nan), wanted);
+            assert_eq!(scalbn64_rounded(attribute, nan, 7), wanted);
+            assert_eq!(fma64_rounded(attribute, ONE64, nan, ONE64), wanted);
+            assert_eq!(fma64_rounded(attribute, ONE64, ONE64, nan), wanted);
+        }
+        for (nan, signals) in NANS32 {
+            let wanted = canonical(NAN32, signals);
+            assert_eq!(sqrt32_rounded(attribute, nan), wanted);
+            assert_eq!(scalbn32_rounded(attribute, nan, 7), wanted);
+            assert_eq!(fma32_rounded(attribute, ONE32, nan, ONE32), wanted);
+            assert_eq!(fma32_rounded(attribute, ONE32, ONE32, nan), wanted);
+        }
     }
 }
 
