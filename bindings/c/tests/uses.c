@@ -62,9 +62,12 @@ static void arguments_under_an_attribute_are_evaluated_once(void) {
     (void)pk_scalbn64_rounded(attribute(), wide(), whole(), &value, &flags), once("and a whole number, at 64 bits", 3);
     (void)pk_scalbn32_rounded(attribute(), small(), whole(), &small_value, &flags), once("and a whole number, at 32 bits", 3);
     (void)pk_sqrt_rounded(attribute(), number(), &result, &flags), once("and a double", 2);
+    (void)pk_sqrtf_rounded(attribute(), small_number(), &small_result, &flags), once("and a float", 2);
+    (void)pk_fma_rounded(attribute(), number(), number(), number(), &result, &flags), once("and three doubles", 4);
     (void)pk_fmaf_rounded(attribute(), small_number(), small_number(), small_number(), &small_result, &flags);
     once("and three floats", 4);
     (void)pk_scalbn_rounded(attribute(), number(), whole(), &result, &flags), once("and a double and a whole number", 3);
+    (void)pk_scalbnf_rounded(attribute(), small_number(), whole(), &small_result, &flags), once("and a float and one", 3);
 }
 
 static void side_effects_happen_once(void) {
