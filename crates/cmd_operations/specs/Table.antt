@@ -11,6 +11,7 @@ use Rattle.ieee.specs.Fmod.{fmodOf}
 use Rattle.ieee.specs.Reduction.{reduceOf}
 use Rattle.ieee.specs.Refusal.{numberOf, valueOf}
 use Rattle.ieee.specs.Remquo.{remquoOf, quotientOf}
+use Rattle.ieee.specs.Rounded.{Rounded, sqrtRounded, fmaRounded, scalbnRounded}
 use Rattle.ieee.specs.Scalbn.{scalbnOf, scalbnFlags}
 use Rattle.ieee.specs.Sqrt.{sqrtOf, sqrtFlags}
 use Rattle.ieee.specs.Whole.{truncOf, truncFlags, floorOf, floorFlags}
@@ -20,14 +21,20 @@ use Rattle.cmd_operations.specs.declared.table.Row.{Row}
 use Rattle.cmd_operations.specs.Naming.{bytesOf, Named, textOf, rowIn}
 
 -- answers by their index, flags by their bits, and a signed number after a word
-abbrev pub one : ℕ → Answers
-one x = record { x = x; y = 0; z = 0; n = pos 0 }
+abbrev pub three : ℕ → ℕ → ℕ → Answers
+three x y z = record { x = x; y = y; z = z; n = pos 0 }
 
 abbrev pub two : ℕ → ℕ → Answers
-two x y = record { x = x; y = y; z = 0; n = pos 0 }
+two x y = three x y 0
+
+abbrev pub one : ℕ → Answers
+one x = two x 0
 
 abbrev pub flagged : ℕ → Flags → Answers
 flagged x F = two x (flagWord F)
+
+abbrev pub rounded : Rounded → Answers
+rounded r = three (r .number) (r .value) (flagWord (r .flags))
 
 abbrev pub signed : ℕ → ℤ → Answers
 signed x n = record { x = x; y = 0; z = 0; n = n }
@@ -61,6 +68,12 @@ operations =
     ∷ operation "sqrt32" "w-- wF-" (λ a. flagged (sqrtOf b32 (low (a .x))) (sqrtFlags b32 (low (a .x))))
     ∷ operation "fma64" "WWW WF-" (λ a. flagged (fmaOf b64 (a .x) (a .y) (a .z)) (fmaFlags b64 (a .x) (a .y) (a .z)))
     ∷ operation "fma32" "www wF-" (λ a. flagged (fmaOf b32 (low (a .x)) (low (a .y)) (low (a .z))) (fmaFlags b32 (low (a .x)) (low (a .y)) (low (a .z))))
+    ∷ operation "sqrt64." "W-- UWF" (λ a. rounded (sqrtRounded b64 (low (a .attribute)) (a .x)))
+    ∷ operation "sqrt32." "w-- UwF" (λ a. rounded (sqrtRounded b32 (low (a .attribute)) (low (a .x))))
+    ∷ operation "fma64." "WWW UWF" (λ a. rounded (fmaRounded b64 (low (a .attribute)) (a .x) (a .y) (a .z)))
+    ∷ operation "fma32." "www UwF" (λ a. rounded (fmaRounded b32 (low (a .attribute)) (low (a .x)) (low (a .y)) (low (a .z))))
+    ∷ operation "scalbn64." "WN- UWF" (λ a. rounded (scalbnRounded b64 (low (a .attribute)) (a .x) (a .n)))
+    ∷ operation "scalbn32." "wN- UwF" (λ a. rounded (scalbnRounded b32 (low (a .attribute)) (low (a .x)) (a .n)))
     ∷ []
 
 abbrev pub rowsOf : List Operation → List Named

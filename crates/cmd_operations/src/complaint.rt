@@ -79,7 +79,7 @@ pub fn with_complaint(l: Line, c: Complaint) -> Line {
     }
     let m = with_text(l, c.what);
     if c.what == Text::Unknown as u8 {
-        return with_names(m);
+        return with_text(with_names(m), Text::FollowsDot as u8);
     }
     if c.what == Text::TheAttribute as u8 {
         return with_expected(with_fault(m, c.fault, c.size), c.kind);

@@ -18,6 +18,12 @@
 //   sqrt32 X            sqrt32 40000000
 //   fma64 X Y Z         fma64 4000000000000000 4008000000000000 3ff0000000000000  X times Y plus Z, rounded once
 //   fma32 X Y Z         fma32 40000000 40400000 3f800000
+//   sqrt64.A X          sqrt64.up 4000000000000000                    0 or refusal 10, and the root of X, rounded once under A
+//   sqrt32.A X          sqrt32.down 40000000
+//   fma64.A X Y Z       fma64.down 3ff0000000000000 3ff0000000000000 bff0000000000000  0 or refusal 10, and X times Y plus Z, rounded once under A
+//   fma32.A X Y Z       fma32.zero 40000000 40400000 3f800000
+//   scalbn64.A X N      scalbn64.away 3ff8000000000000 -1075          0 or refusal 10, and X times 2^N, rounded once under A
+//   scalbn32.A X N      scalbn32.1 3f800000 128
 pub mod complaint;
 pub mod line;
 pub mod request;

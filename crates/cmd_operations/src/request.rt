@@ -83,12 +83,20 @@ fn from_signed(f: Signed) -> Taken {
     }
 }
 
+// A name or a number. What has no digits, or other ones, was meant for a name.
 fn read_attribute(f: &[u8]) -> Taken {
     let number = attribute_of(f);
     if number < 5 {
         return with_value(number as u64, 0);
     }
-    from_field(read_unsigned(f))
+    let mut t = from_field(read_unsigned(f));
+    if t.fault == Text::NoDigits as u8 {
+        t.fault = Text::Empty as u8;
+    }
+    if t.fault == Text::WrongDigit as u8 {
+        t.fault = Text::NotKnown as u8;
+    }
+    t
 }
 
 // A text may be anything; its length is its value.
@@ -229,6 +237,9 @@ fn flaw_of(s: &[u8], row: Row) -> u8 {
     }
     if is_named(row) {
         return FINE;
+    }
+    if is_named(row_of(part(s, 0, find(s, 0, b'.')))) {
+        return Text::NoAttribute as u8;
     }
     Text::Unknown as u8
 }

@@ -10,7 +10,7 @@ use text_lines::find;
 use text_lines::part;
 use text_lines::write_bytes;
 
-const SIZE: usize = 237;
+const SIZE: usize = 335;
 
 // A row for each operation: its name, of any length, the kinds of up to three operands and of up to three answers. A name that ends in a dot is followed
 // by an attribute. An operation's number is that of its row, from 0 on.
@@ -31,6 +31,12 @@ sqrt64 W-- WF-
 sqrt32 w-- wF-
 fma64 WWW WF-
 fma32 www wF-
+sqrt64. W-- UWF
+sqrt32. w-- UwF
+fma64. WWW UWF
+fma32. www UwF
+scalbn64. WN- UWF
+scalbn32. wN- UwF
 ";
 
 // The attributes of rounding by name, in the order of their numbers.

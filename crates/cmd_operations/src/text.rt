@@ -28,6 +28,7 @@ pub enum Text {
     Overflow,
     Underflow,
     TheAttribute,
+    NotKnown,
     NoDigits,
     LeadingZero,
     MinusZero,
@@ -35,6 +36,8 @@ pub enum Text {
     Integer,
     Natural,
     Attribute,
+    NoAttribute,
+    FollowsDot,
     AnyText,
     TooLong,
     CarriageReturn,
@@ -61,7 +64,7 @@ pub enum Text {
 }
 
 // A text ends before a bar. The search runs from the start, so the most frequent texts come first.
-const TEXTS: [u8; 1132] = *b" ->|
+const TEXTS: [u8; 1234] = *b" ->|
  |
 OK|
 INEXACT|
@@ -84,6 +87,7 @@ DIVBYZERO|
 OVERFLOW|
 UNDERFLOW|
 the attribute |
+is unknown|
 has no digits|
 begins with a zero|
 is a zero with a sign|
@@ -91,6 +95,8 @@ is out of range|
 a decimal number from -2147483648 to 2147483647|
 a decimal number from 0 to 4294967295|
 even, zero, down, up, away or a decimal number from 0 to 4294967295|
+the operation takes no attribute; expected its name alone|
+ (an attribute follows a dot)|
 a text|
 the line is too long; expected a request of at most 124 characters|
 a carriage return stands in the request; expected a line feed alone|

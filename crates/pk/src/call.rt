@@ -1,8 +1,8 @@
 // The calls: each operation of the library by its number in the table.
 ghost use mathlib.Core.Path.{_≡_};
-ghost use Rattle.cmd_operations.specs.Table.{one, two, flagged, signed, answersOf};
+ghost use Rattle.cmd_operations.specs.Table.{one, two, three, flagged, rounded, signed, answersOf};
 ghost use Rattle.ieee.specs.Flags.{flagWord};
-ghost use Rattle.flagged.specs.Record.{recordOf};
+ghost use Rattle.flagged.specs.Record.{recordOf, roundedOf64, roundedOf32};
 use cmd_operations::line::Answers;
 use cmd_operations::request::Operands;
 use fmt_fields::env::weigh;
@@ -14,6 +14,7 @@ pub fn answer_of(number: usize, a: Operands) -> Answers
     let x = (a.x % 4294967296) as u32;
     let y = (a.y % 4294967296) as u32;
     let z = (a.z % 4294967296) as u32;
+    let attribute = (a.attribute % 4294967296) as u32;
     match number {
         0 => flagged64(paskerotim::floor64_flags(a.x)),
         1 => flagged32(paskerotim::floor32_flags(x)),
@@ -30,19 +31,31 @@ pub fn answer_of(number: usize, a: Operands) -> Answers
         12 => flagged32(paskerotim::sqrt32_flags(x)),
         13 => flagged64(paskerotim::fma64_flags(a.x, a.y, a.z)),
         14 => flagged32(paskerotim::fma32_flags(x, y, z)),
+        15 => rounded64(paskerotim::sqrt64_rounded(attribute, a.x)),
+        16 => rounded32(paskerotim::sqrt32_rounded(attribute, x)),
+        17 => rounded64(paskerotim::fma64_rounded(attribute, a.x, a.y, a.z)),
+        18 => rounded32(paskerotim::fma32_rounded(attribute, x, y, z)),
+        19 => rounded64(paskerotim::scalbn64_rounded(attribute, a.x, a.n)),
+        20 => rounded32(paskerotim::scalbn32_rounded(attribute, x, a.n)),
         _ => two_answers(0, 0),
+    }
+}
+
+fn three_answers(x: u64, y: u64, z: u64) -> Answers
+    ensures { λ r. ⌜ r ≡ three x y z ⌝ }
+{
+    Answers {
+        x: x,
+        y: y,
+        z: z,
+        n: 0,
     }
 }
 
 fn two_answers(x: u64, y: u64) -> Answers
     ensures { λ r. ⌜ r ≡ two x y ⌝ }
 {
-    Answers {
-        x: x,
-        y: y,
-        z: 0,
-        n: 0,
-    }
+    three_answers(x, y, 0)
 }
 
 fn word64(x: u64) -> Answers
@@ -81,6 +94,20 @@ fn flagged32(r: paskerotim::Flagged32) -> Answers
 {
     let flags = r.flags;
     two_answers(r.value as u64, word_of(flags))
+}
+
+fn rounded64(r: paskerotim::Rounded64) -> Answers
+    ensures { λ a. ⌜ a ≡ rounded (roundedOf64 r) ⌝ }
+{
+    let flags = r.flags;
+    three_answers(r.refusal as u64, r.value, word_of(flags))
+}
+
+fn rounded32(r: paskerotim::Rounded32) -> Answers
+    ensures { λ a. ⌜ a ≡ rounded (roundedOf32 r) ⌝ }
+{
+    let flags = r.flags;
+    three_answers(r.refusal as u64, r.value as u64, word_of(flags))
 }
 
 fn quotient64(r: paskerotim::Remquo64) -> Answers
