@@ -238,6 +238,7 @@ fn flaw_of(s: &[u8], row: Row) -> u8 {
     if is_named(row) {
         return FINE;
     }
+    // Without the dot it may be a name.
     if is_named(row_of(part(s, 0, find(s, 0, b'.')))) {
         return Text::NoAttribute as u8;
     }
