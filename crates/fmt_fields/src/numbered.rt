@@ -24,6 +24,9 @@ pub struct Answer32 {
     pub flags: Raised,
 }
 
+// The number of the refusal: no such attribute.
+const UNKNOWN: u32 = 10;
+
 // Whether an attribute has this number.
 pub fn is_attribute(number: u32) -> bool
     ensures { λ r. ⌜ r ≡ ltb number 5 ⌝ }
@@ -67,12 +70,11 @@ pub fn accept32(r: Raised32) -> Answer32
     }
 }
 
-// No such attribute.
 pub fn refuse64() -> Answer64
     ensures { λ a. ⌜ answer64 a ≡ noAttribute ⌝ }
 {
     Answer64 {
-        refusal: 10,
+        refusal: UNKNOWN,
         value: 0,
         flags: no_flags(),
     }
@@ -82,7 +84,7 @@ pub fn refuse32() -> Answer32
     ensures { λ a. ⌜ answer32 a ≡ noAttribute ⌝ }
 {
     Answer32 {
-        refusal: 10,
+        refusal: UNKNOWN,
         value: 0,
         flags: no_flags(),
     }
