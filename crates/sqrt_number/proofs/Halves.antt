@@ -6,20 +6,20 @@ use native.Mathlib.Omega.{arith}
 use lib.Dec.{eqb}
 use lib.IntN.{pos}
 use lib.Pow.{pow-add, pow-mono}
-use borrow.Author.Tests.{eqb-true}
 use Rattle.algebra.proofs.Integers.{addZ, eqZ-fact}
-use Rattle.ieee.specs.Round.{ties-to-even, answer}
+use Rattle.ieee.specs.Round.{even, Attribute, ties-to-even, wayOf, answer}
 use Rattle.ieee.specs.Scalbn.{scaled}
-use Rattle.ieee.specs.Sqrt.{sqrtOf}
+use Rattle.ieee.specs.Sqrt.{sqrtIn, sqrtOf}
 use Rattle.fmt_fields.specs.Width.{format, Fits}
 use Rattle.fmt_fields.proofs.Widths.{fields-small}
 use Rattle.fmt_decode.specs.Significand.{expOf}
 use Rattle.fmt_decode.proofs.Ranges.{exp-in-range, range-bounds}
 use Rattle.sqrt_digits.specs.Floor.{FloorRoot, pairs}
 use Rattle.sqrt_digits.proofs.Digits.{root-small}
-use Rattle.sqrt_table.proofs.Wholes.{longer-root, nearest-alike}
-use Rattle.sqrt_number.specs.Split.{lift, square, halfOf, markedBy, wordOf, Above, Parts, Leads, Ready, NearestRoot}
-use Rattle.sqrt_number.proofs.Joins.{NormalRoot, even-root, nearest-is}
+use Rattle.sqrt_table.specs.Residual.{Residual, floorBy, nearestBy, exactBy}
+use Rattle.sqrt_table.proofs.Wholes.{Whole, whole, longer-exact}
+use Rattle.sqrt_number.specs.Split.{lift, square, halfOf, markedBy, wordOf, roundedBy, Above, Parts, Leads, Ready, RoundedRoot}
+use Rattle.sqrt_number.proofs.Joins.{NormalRoot, rounded-is}
 use Rattle.sqrt_number.proofs.Rootings.{root-answer, root-long, up-least, up-most}
 use Rattle.sqrt_number.proofs.Splits.{fraction-few, leads, word-room, word-squares, word-fourfold}
 
@@ -57,28 +57,40 @@ module _ {p e : ℕ} (w : Fits p e) (x : ℕ) (a : Above (format p e) x) (sig up
         to = ready l .to;
       }
 
-  answers : (t : ℕ) (b : Bool) → FloorRoot (pairs word (p + 2)) t × (b ≡ eqb (t * t) (pairs word (p + 2)))
-      → sqrtOf (format p e) x ≡ answer (format p e) ties-to-even false (scaled false (markedBy t b) (halfOf up))
-  answers t b (i, j) =
+  answers : (t : ℕ) (b : Bool) → FloorRoot (pairs word (p + 2)) t × (b ≡ eqb (t * t) (pairs word (p + 2))) → (g : Attribute)
+      → sqrtIn (format p e) g x ≡ answer (format p e) g false (scaled false (markedBy t b) (halfOf up))
+  answers t b (i, j) g =
       root-answer (format p e) (w .fair) x (a .some) up (h .up-is) (a .below) (a .plus) t b
-      (subst (λ n. FloorRoot n t) square-is i) (j ∙ ap (eqb (t * t)) square-is)
+      (subst (λ n. FloorRoot n t) square-is i) (j ∙ ap (eqb (t * t)) square-is) g
 
   -- ---- by the root digit by digit, through the rounding step
   pub rounded-answers : (t : ℕ) (b : Bool) → FloorRoot (pairs word (p + 2)) t × (b ≡ eqb (t * t) (pairs word (p + 2))) → (r : ℕ)
       → r ≡ answer (format p e) ties-to-even false (scaled false (markedBy t b) (halfOf up)) → r ≡ sqrtOf (format p e) x
-  rounded-answers t b i r k = k ∙ sym (answers t b i)
+  unfolding sqrtOf
+  rounded-answers t b i r k = k ∙ sym (answers t b i ties-to-even)
 
-  -- ---- by the residual, to the nearest
-  -- an exact root is even
-  even-square : (t : ℕ) → t * t ≡ pairs word (p + 2) → t % 2 ≡ 0
-  even-square t q = even-root t (2 * pairs word (p + 1)) (omega (arith, q, word-fourfold p sig up led))
+  -- ---- by a whole number next to the root, and its residual
+  module _ (l : p + 2 ≤ 2 ^ (e - 1)) (root rem : ℕ) (c : Residual (pairs word (p + 1)) root rem) where
+    known : Whole (pairs word (p + 1)) (floorBy root rem) (nearestBy root rem) (exactBy root rem)
+    known = whole (pairs word (p + 1)) root rem c
 
-  pub nearest-answers : p + 2 ≤ 2 ^ (e - 1) → (r : ℕ) → NearestRoot p sig up r → r ≡ sqrtOf (format p e) x
-  nearest-answers l r n =
-      let (t, f) = longer-root (pairs word (p + 1)) (n .root) (n .rem) (n .residual) in
-      let g : FloorRoot (pairs word (p + 2)) t = subst (λ k. FloorRoot k t) (sym (word-fourfold p sig up led)) f in
-      let b : Bool = eqb (t * t) (pairs word (p + 2)) in
-      n .is
-      ∙ ap (λ k. (up / 2 - 2) * 2 ^ p + k) (sym (nearest-alike (pairs word (p + 1)) (n .root) (n .rem) (n .residual) t f))
-      ∙ sym (nearest-is (format p e) (w .fair) t up (normal-root l t g) b (λ q. even-square t (eqb-true (t * t) (pairs word (p + 2)) q)))
-      ∙ sym (answers t b (g, refl))
+    abbrev longer : ℕ
+    longer = floorBy root rem + nearestBy root rem
+
+    floor : FloorRoot (pairs word (p + 2)) longer
+    floor = subst (λ n. FloorRoot n longer) (sym (word-fourfold p sig up led)) (known .longer)
+
+    pub floor-bounds : (2 ^ p ≤ floorBy root rem) × (floorBy root rem < 2 * 2 ^ p)
+    floor-bounds = let i = normal-root l longer floor in omega (arith, i .least, i .most, known .low, known .high)
+
+    pub floor-exact : exactBy root rem ≡ eqb (floorBy root rem * floorBy root rem) (pairs word (p + 1))
+    floor-exact = known .exact
+
+    pub residual-answers : (g : Attribute) → roundedBy (wayOf g false) p root rem up ≡ sqrtIn (format p e) g x
+    residual-answers g =
+        sym (rounded-is (format p e) (w .fair) known up (normal-root l longer floor) g)
+        ∙ sym (answers longer (exactBy root rem) (floor, longer-exact known ∙ ap (eqb (longer * longer)) (sym (word-fourfold p sig up led))) g)
+
+  pub nearest-answers : p + 2 ≤ 2 ^ (e - 1) → (r : ℕ) → RoundedRoot even p sig up r → r ≡ sqrtOf (format p e) x
+  unfolding sqrtOf
+  nearest-answers l r n = n .is ∙ residual-answers l (n .root) (n .rem) (n .residual) ties-to-even

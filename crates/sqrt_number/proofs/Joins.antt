@@ -1,4 +1,4 @@
--- A root that makes a normal number: its location is one bit of the root and the mark, and to the nearest that bit alone decides. Assumes nothing.
+-- A root that makes a normal number: its location is one bit of the root and the mark, and these decide which whole number a way takes. Assumes nothing.
 use Prim.Native.Nat.{ℕ, zero, suc, _+_, _-_, _*_, _/_, _%_, _^_, _≤_, _<_}
 use mathlib.Core.Path.{_≡_, refl, sym, ap, ap₂, _∙_}
 use mathlib.Core.Bool.{Bool, true, false}
@@ -10,13 +10,14 @@ use Rattle.algebra.proofs.Products.{order}
 use Rattle.algebra.proofs.Integers.{up, dn, subZ}
 use Rattle.ieee.specs.Format.{Format, Fair}
 use Rattle.ieee.specs.Pattern.{signed}
-use Rattle.ieee.specs.Round.{answer, even, ties-to-even}
+use Rattle.ieee.specs.Round.{Way, even, away, shorter, longer, Attribute, wayOf, answer}
 use Rattle.ieee.specs.Scalbn.{scaled}
 use Rattle.round_laws.specs.Location.{location, below, chosen, part, stretched}
 use Rattle.round_laws.proofs.Locations.{locate-normal}
 use Rattle.round_laws.proofs.Stretched.{stretched-ratio}
 use Rattle.round_step.proofs.Scaled.{answer-chosen}
-use Rattle.sqrt_number.specs.Split.{halfOf, markedBy}
+use Rattle.sqrt_table.proofs.Wholes.{Whole, exact-nearest}
+use Rattle.sqrt_number.specs.Split.{halfOf, markedBy, takenBy}
 
 -- a root of frac + 2 bits and a lifted exponent that make a normal number
 pub record NormalRoot (f : Format) (root up : ℕ) : Type 0 where
@@ -32,22 +33,47 @@ part-four (suc (suc zero)) h = refl
 part-four (suc (suc (suc zero))) h = refl
 part-four (suc (suc (suc (suc r)))) h = absurd (omega arith)
 
--- the choice to the nearest, by the location
-stays : (m p : ℕ) → p ≤ 1 → chosen even m p ≡ m
-stays m p h = rw (le-ltb 2 (p + m % 2) (omega arith)) (omega arith)
+-- ---- the choice by the location, from k on: at a whole number, before the middle to the next, and past it
+at-whole : (w : Way) (k m : ℕ) → chosen w (k + m) 0 ≡ k + takenBy w m m true
+at-whole even k m = rw (le-ltb 2 (0 + (k + m) % 2) (omega arith)) (omega arith)
+at-whole away k m = omega arith
+at-whole shorter k m = refl
+at-whole longer k m = omega arith
 
-goes : (m p : ℕ) → 3 ≤ p → chosen even m p ≡ m + 1
-goes m p h = rw (lt-ltb 2 (p + m % 2) (omega arith)) (omega arith)
+before-middle : (w : Way) (k m : ℕ) → chosen w (k + m) 1 ≡ k + takenBy w m m false
+before-middle even k m = rw (le-ltb 2 (1 + (k + m) % 2) (omega arith)) (omega arith)
+before-middle away k m = omega arith
+before-middle shorter k m = refl
+before-middle longer k m = omega arith
+
+past-middle : (w : Way) (k m : ℕ) → chosen w (k + m) 3 ≡ k + takenBy w m (m + 1) false
+past-middle even k m = rw (lt-ltb 2 (3 + (k + m) % 2) (omega arith)) (omega arith)
+past-middle away k m = omega arith
+past-middle shorter k m = refl
+past-middle longer k m = omega arith
 
 no-sign : (f : Format) (m : ℕ) → signed f false m ≡ m
 no-sign f m = omega arith
 
--- a root whose square is even is even
-pub even-root : (t n : ℕ) → t * t ≡ n * 2 → t % 2 ≡ 0
-even-root t n e =
-    order (t % 2) 0
-    (λ h. omega arith)
-    (λ h. let k = t / 2 in let i : t ≡ 2 * k + 1 = omega arith in absurd (omega (arith, sym e ∙ ap (λ s. s * s) i)))
+-- past the middle where the nearest number is the next
+lands : (w : Way) (from : ℕ) {n m k : ℕ} {b : Bool} → Whole n m k b → chosen w (from + markedBy (m + k) b / 4) (markedBy (m + k) b % 4) ≡ from + takenBy w m k b
+lands w from {n} {m} {k} {b = true} v =
+    let e : k ≡ m = exact-nearest v refl in
+    let r : (2 * (m + k) + 0) % 4 ≡ 0 = omega arith in
+    let s : (2 * (m + k) + 0) / 4 ≡ m = omega arith in
+    rw (r, s, e) (at-whole w from m)
+lands w from {n} {m} {k} {b = false} v =
+    order k m
+    (λ h.
+    let e : k ≡ m = omega (arith, v .low) in
+    let r : (2 * (m + k) + 1) % 4 ≡ 1 = omega arith in
+    let s : (2 * (m + k) + 1) / 4 ≡ m = omega arith in
+    rw (r, s, e) (before-middle w from m))
+    (λ h.
+    let e : k ≡ m + 1 = omega (arith, v .high) in
+    let r : (2 * (m + k) + 1) % 4 ≡ 3 = omega arith in
+    let s : (2 * (m + k) + 1) / 4 ≡ m = omega arith in
+    rw (r, s, e) (past-middle w from m))
 
 module _ (f : Format) (g : Fair f) (t lifted : ℕ) (i : NormalRoot f t lifted) where
   length : (b : Bool) → (2 ^ (2 + f .frac) ≤ markedBy t b) × (markedBy t b < 2 ^ (2 + suc (f .frac)))
@@ -61,25 +87,9 @@ module _ (f : Format) (g : Fair f) (t lifted : ℕ) (i : NormalRoot f t lifted) 
       let (m, q, _, _) = locate-normal f g 2 s (up (halfOf lifted)) (dn (halfOf lifted)) (lifted / 2 - 2) l h (omega (arith, subZ (pos (lifted / 2)) (pos 4), i .from)) (omega (arith, i .from, i .to)) in
       rw stretched-ratio (m, q ∙ part-four (s % 4) (omega arith))
 
-  -- to the nearest: up where the last bit is 1, since the root is then not exact
-  lands : (b : Bool) → (b ≡ true → t % 2 ≡ 0) → chosen even ((lifted / 2 - 2) * 2 ^ f .frac + markedBy t b / 4) (markedBy t b % 4) ≡ (lifted / 2 - 2) * 2 ^ f .frac + (t + 1) / 2
-  lands true z =
-      let q : t % 2 ≡ 0 = z refl in
-      let r : (2 * t + 0) % 4 ≡ 0 = omega arith in
-      let s : (2 * t + 0) / 4 ≡ (t + 1) / 2 = omega arith in
-      rw (r, s) (stays ((lifted / 2 - 2) * 2 ^ f .frac + (t + 1) / 2) 0 (omega arith))
-  lands false z =
-      order (t % 2) 0
-      (λ h.
-      let r : (2 * t + 1) % 4 ≡ 1 = omega arith in
-      let s : (2 * t + 1) / 4 ≡ (t + 1) / 2 = omega arith in
-      rw (r, s) (stays ((lifted / 2 - 2) * 2 ^ f .frac + (t + 1) / 2) 1 (omega arith)))
-      (λ h.
-      let r : (2 * t + 1) % 4 ≡ 3 = omega arith in
-      let s : (2 * t + 1) / 4 + 1 ≡ (t + 1) / 2 = omega arith in
-      rw r (goes ((lifted / 2 - 2) * 2 ^ f .frac + (2 * t + 1) / 4) 3 (omega arith) ∙ (omega arith)))
-
-  pub nearest-is : (b : Bool) → (b ≡ true → t % 2 ≡ 0) → answer f ties-to-even false (scaled false (markedBy t b) (halfOf lifted)) ≡ (lifted / 2 - 2) * 2 ^ f .frac + (t + 1) / 2
-  nearest-is b z =
-      let (m, q) = known-location b in
-      answer-chosen f g ties-to-even false (markedBy t b) (halfOf lifted) ∙ ap (signed f false) (ap₂ (chosen even) m q) ∙ no-sign f _ ∙ lands b z
+-- the root rounded down to m, with the nearest number k, as a number
+pub rounded-is : (f : Format) → Fair f → {n m k : ℕ} {b : Bool} → Whole n m k b → (lifted : ℕ) → NormalRoot f (m + k) lifted → (a : Attribute)
+    → answer f a false (scaled false (markedBy (m + k) b) (halfOf lifted)) ≡ (lifted / 2 - 2) * 2 ^ f .frac + takenBy (wayOf a false) m k b
+rounded-is f g {n} {m} {k} {b} v lifted i a =
+    let (l, q) = known-location f g (m + k) lifted i b in
+    answer-chosen f g a false (markedBy (m + k) b) (halfOf lifted) ∙ ap (signed f false) (ap₂ (chosen (wayOf a false)) l q) ∙ no-sign f _ ∙ lands (wayOf a false) _ v

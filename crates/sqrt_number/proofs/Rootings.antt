@@ -13,9 +13,9 @@ use Rattle.algebra.proofs.Integers.{addZ, subZ, eqZ-fact}
 use Rattle.ieee.specs.Format.{Format, Fair, low, inf, units}
 use Rattle.ieee.specs.Pattern.{magnitude, minus, finite, kind}
 use Rattle.ieee.specs.Exact.{surd, root, magnified}
-use Rattle.ieee.specs.Round.{ties-to-even, answer}
+use Rattle.ieee.specs.Round.{Attribute, answer}
 use Rattle.ieee.specs.Scalbn.{scaled}
-use Rattle.ieee.specs.Sqrt.{sqrtOf}
+use Rattle.ieee.specs.Sqrt.{sqrtIn}
 use Rattle.ieee.proofs.Patterns.{kind-finite, value-finite}
 use Rattle.ieee.proofs.Signs.{abs-signed}
 use Rattle.ieee.proofs.Sqrts.{sqrt-answer}
@@ -81,13 +81,12 @@ module _ (f : Format) (g : Fair f) (x : ℕ) (some : 0 < magnitude f x) (lifted 
       long = omega (arith, pow-add 2 (p + 2) (lifted % 2), pow-add 2 p 2, times-le (2 ^ (p + 2)) (pow-pos (lifted % 2)))
 
   -- so the answer is the marked root, rounded
-  pub root-answer : magnitude f x < inf f → minus f x ≡ false → (t : ℕ) (b : Bool) → FloorRoot (square f x lifted) t → b ≡ eqb (t * t) (square f x lifted)
-      → sqrtOf f x ≡ answer f ties-to-even false (scaled false (markedBy t b) (halfOf lifted))
-  unfolding sqrtOf
-  root-answer l m t b r e =
-      sqrt-answer f ties-to-even x u k (λ z. absurd (let q : _≡_ {A = ℕ} 0 1 = cc in omega arith))
-      ∙ ap (λ n. answer f ties-to-even (minus f x) (surd (n * 2 ^ low f))) (ap natAbs (value-finite f x u k) ∙ abs-signed (minus f x) u)
-      ∙ sticky-root-answer f ties-to-even (minus f x) (u * 2 ^ low f) (markedBy t b) (lifted / 2) 4 (halfOf lifted) v-some (omega (arith, subZ (pos (lifted / 2)) (pos 4))) mark (λ z. long b)
+  pub root-answer : magnitude f x < inf f → minus f x ≡ false → (t : ℕ) (b : Bool) → FloorRoot (square f x lifted) t → b ≡ eqb (t * t) (square f x lifted) → (a : Attribute)
+      → sqrtIn f a x ≡ answer f a false (scaled false (markedBy t b) (halfOf lifted))
+  root-answer l m t b r e a =
+      sqrt-answer f a x u k (λ z. absurd (let q : _≡_ {A = ℕ} 0 1 = cc in omega arith))
+      ∙ ap (λ n. answer f a (minus f x) (surd (n * 2 ^ low f))) (ap natAbs (value-finite f x u k) ∙ abs-signed (minus f x) u)
+      ∙ sticky-root-answer f a (minus f x) (u * 2 ^ low f) (markedBy t b) (lifted / 2) 4 (halfOf lifted) v-some (omega (arith, subZ (pos (lifted / 2)) (pos 4))) mark (λ z. long b)
     where
       u : ℕ
       u = units f (magnitude f x)

@@ -1,44 +1,61 @@
 -- The radicand by the table: what its root requires, and what the root and its residual make. Assumes nothing.
 use Prim.Native.Nat.{ℕ, _+_, _-_, _*_, _/_, _^_, _≤_, _<_}
 use mathlib.Core.Path.{_≡_, refl, subst, sym}
+use mathlib.Core.Bool.{Bool, true, false, not, _&&_, cond}
 use native.Mathlib.Omega.{arith}
+use lib.Dec.{ltb}
 use lib.Pow.{pow-add, pow-pos}
-use borrow.Author.Tests.{lt-ltb, le-ltb}
-use Rattle.algebra.proofs.Products.{order, times-le}
+use Rattle.algebra.proofs.Products.{times-le}
 use Rattle.ieee.specs.Format.{Format}
-use Rattle.sqrt_table.specs.Table.{Serves}
+use Rattle.ieee.specs.Round.{Way, even, away, shorter, longer}
 use Rattle.sqrt_digits.specs.Floor.{pairs}
-use Rattle.sqrt_table.specs.Residual.{Residual, nearestBy}
-use Rattle.sqrt_number.specs.Split.{wordOf, nearestOf, Ready, Room, NearestRoot}
+use Rattle.sqrt_table.specs.Table.{entryOf, Serves}
+use Rattle.sqrt_table.specs.Guess.{Starts}
+use Rattle.sqrt_table.specs.Residual.{Residual, exactBy}
+use Rattle.sqrt_number.specs.Split.{wordOf, limitBy, risesBy, wholeBy, roundedBy, Ready, Room, RoundedRoot}
 use Rattle.sqrt_number.proofs.Splits.{word-high, word-root}
 
-one-more : (q rem : ℕ) → nearestBy q rem ≤ q + 1
-one-more q rem = order rem q (λ l. rw (le-ltb q rem l) (omega arith)) (λ l. rw (lt-ltb q rem l) (omega arith))
+-- ---- the whole number that a way takes, as it is computed
+at-most-one : (b : Bool) → cond b 1 0 ≤ 1
+at-most-one true = omega arith
+at-most-one false = omega arith
 
--- ---- a nearest number is a pattern without a sign
+unless : (b : Bool) → _≡_ {A = ℕ} (cond (not b) 1 0) (cond b 0 1)
+unless true = refl
+unless false = refl
+
+pub whole-is : (w : Way) (q rem : ℕ) → q + cond (ltb (limitBy w q) rem) 1 0 + cond (risesBy w && not (exactBy q rem)) 1 0 ≡ wholeBy w q rem
+whole-is even q rem = omega arith
+whole-is away q rem = omega arith
+whole-is shorter q rem = omega arith
+whole-is longer q rem = omega (arith, unless (exactBy q rem))
+
+-- it makes a pattern without a sign
 module _ (f : Format) (q up : ℕ) (n : Room f q up) where
-  pub next-room : (unit : ℕ) → unit ≡ 2 ^ f .frac → (up / 2 - 2) * unit + q + 1 < 2 ^ (f .frac + f .expo)
-  next-room unit i =
+  most-room : (up / 2 - 2) * 2 ^ f .frac + (q + 2) ≤ 2 ^ (f .frac + f .expo)
+  most-room =
       let l : up / 2 - 2 + 3 ≤ 2 ^ f .expo = omega (arith, n .from, n .to) in
-      rw i (omega (arith, n .most, times-le (2 ^ f .frac) l, pow-add 2 (f .frac) (f .expo), pow-pos (f .frac)))
+      omega (arith, n .most, times-le (2 ^ f .frac) l, pow-add 2 (f .frac) (f .expo), pow-pos (f .frac))
 
-  pub nearest-room : (rem : ℕ) → nearestOf (f .frac) q rem up < 2 ^ (f .frac + f .expo)
-  nearest-room rem = omega (arith, one-more q rem, next-room (2 ^ f .frac) refl)
+  pub rounded-room : (w : Way) (rem : ℕ) → roundedBy w (f .frac) q rem up ≤ 2 ^ (f .frac + f .expo)
+  rounded-room w rem =
+      omega (arith, whole-is w q rem, at-most-one (ltb (limitBy w q) rem), at-most-one (risesBy w && not (exactBy q rem)), most-room)
 
 -- ---- the radicand as the code has it
 module _ (f : Format) (sig up : ℕ) (r : Ready f sig up) (word : ℕ) (is : word ≡ wordOf (f .frac) sig up) where
-  pub in-step : (i : ℕ) → Serves i (wordOf (f .frac) sig up / 2 ^ 32) → Serves i (word / 2 ^ 32)
-  in-step i s = subst (λ m. Serves i (m / 2 ^ 32)) (sym is) s
-
-  pub high : 2 ^ 62 ≤ word
-  high = subst (λ m. 2 ^ 62 ≤ m) (sym is) (word-high (f .frac) sig up (r .leads))
+  -- what the rounds require
+  pub begun : (i guess : ℕ) → Serves i (wordOf (f .frac) sig up / 2 ^ 32) → guess ≡ entryOf i * 2 ^ 16 → (2 ^ 62 ≤ word) × Starts (word / 2 ^ 32) guess
+  begun i guess s e = (
+    subst (λ m. 2 ^ 62 ≤ m) (sym is) (word-high (f .frac) sig up (r .leads)),
+    record { step = i; serves = subst (λ m. Serves i (m / 2 ^ 32)) (sym is) s; is = e },
+  )
 
   module _ (q rem : ℕ) (c : Residual (pairs word (f .frac + 1)) q rem) where
-    close : Residual (pairs (wordOf (f .frac) sig up) (f .frac + 1)) q rem
+    pub close : Residual (pairs (wordOf (f .frac) sig up) (f .frac + 1)) q rem
     close = subst (λ m. Residual (pairs m (f .frac + 1)) q rem) is c
 
     pub room : Room f q up
     room = record { most = word-root (f .frac) sig up (r .leads) q (omega (arith, close .sum)); from = r .from; to = r .to }
 
-    pub nearest-root : (y : ℕ) → y ≡ nearestOf (f .frac) q rem up → NearestRoot (f .frac) sig up y
-    nearest-root y e = record { root = q; rem = rem; residual = close; is = e }
+    pub rounded-root : (w : Way) (y : ℕ) → y ≡ roundedBy w (f .frac) q rem up → RoundedRoot w (f .frac) sig up y
+    rounded-root w y e = record { root = q; rem = rem; residual = close; is = e }

@@ -1,14 +1,14 @@
 -- A positive number split for its root: an exponent to be halved, and a radicand. Assumes nothing.
 use Prim.Native.Nat.{ℕ, _+_, _-_, _*_, _/_, _%_, _^_, _≤_, _<_}
 use mathlib.Core.Path.{_≡_}
-use mathlib.Core.Bool.{Bool, false, cond}
-use lib.Dec.{eqb}
+use mathlib.Core.Bool.{Bool, true, false, cond}
 use lib.IntN.{ℤ, pos, _+ℤ_, _-ℤ_}
 use Rattle.ieee.specs.Format.{Format, inf}
 use Rattle.ieee.specs.Pattern.{magnitude, minus}
+use Rattle.ieee.specs.Round.{Way, even, away, shorter, longer}
 use Rattle.fmt_decode.specs.Significand.{sigOf, expOf}
 use Rattle.sqrt_digits.specs.Floor.{pairs}
-use Rattle.sqrt_table.specs.Residual.{Residual, nearestBy}
+use Rattle.sqrt_table.specs.Residual.{Residual, floorBy, nearestBy, exactBy}
 
 -- added to an exponent, to keep it from being negative
 abbrev pub lift : Format → ℕ
@@ -48,9 +48,33 @@ abbrev pub wordOf : ℕ → ℕ → ℕ → ℕ
 wordOf p sig up = sig * 2 ^ (62 - p + up % 2)
 
 -- ---- by the table
--- the normal number of a root of frac + 1 bits, or the next, by the residual
-abbrev pub nearestOf : ℕ → ℕ → ℕ → ℕ → ℕ
-nearestOf p root rem up = (up / 2 - 2) * 2 ^ p + nearestBy root rem
+-- which whole number a way takes of a root: of the root rounded down, the whole number nearest to it and whether it is exact; there is no tie
+abbrev pub takenBy : Way → ℕ → ℕ → Bool → ℕ
+takenBy even floor nearest exact = nearest
+takenBy away floor nearest exact = nearest
+takenBy shorter floor nearest exact = floor
+takenBy longer floor nearest exact = floor + cond exact 0 1
+
+-- the same by a whole number next to the root, and its residual
+abbrev pub wholeBy : Way → ℕ → ℕ → ℕ
+wholeBy w root rem = takenBy w (floorBy root rem) (nearestBy root rem) (exactBy root rem)
+
+-- the residual past which a way takes the next number, and whether it goes up from a root rounded down that is not exact
+abbrev pub limitBy : Way → ℕ → ℕ
+limitBy even root = root
+limitBy away root = root
+limitBy shorter root = 2 * root
+limitBy longer root = 2 * root
+
+abbrev pub risesBy : Way → Bool
+risesBy even = false
+risesBy away = false
+risesBy shorter = false
+risesBy longer = true
+
+-- the whole number as a normal one, at the lifted exponent
+abbrev pub roundedBy : Way → ℕ → ℕ → ℕ → ℕ → ℕ
+roundedBy w p root rem up = (up / 2 - 2) * 2 ^ p + wholeBy w root rem
 
 -- what the table requires of the parts
 pub record Ready (f : Format) (sig up : ℕ) : Type 0 where
@@ -64,18 +88,9 @@ pub record Room (f : Format) (root up : ℕ) : Type 0 where
   pub from : 4 ≤ up
   pub to : up / 2 < 2 ^ f .expo
 
--- r is the root of sig at the lifted exponent up, to the nearest
-pub record NearestRoot (p sig up r : ℕ) : Type 0 where
+-- r is the root of sig at the lifted exponent up, rounded by a way
+pub record RoundedRoot (w : Way) (p sig up r : ℕ) : Type 0 where
   pub root : ℕ
   pub rem : ℕ
   pub residual : Residual (pairs (wordOf p sig up) (p + 1)) root rem
-  pub is : r ≡ nearestOf p root rem up
-
--- ---- exact or not
--- the whole number in the pattern r of a root
-abbrev pub rootIn : ℕ → ℕ → ℕ → ℕ
-rootIn p up r = r - (up / 2 - 2) * 2 ^ p
-
--- its square is the radicand
-abbrev pub isRoot : ℕ → ℕ → ℕ → ℕ → Bool
-isRoot p sig up r = eqb (rootIn p up r * rootIn p up r) (sig * 2 ^ (p + up % 2))
+  pub is : r ≡ roundedBy w p root rem up

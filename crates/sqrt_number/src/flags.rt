@@ -1,28 +1,21 @@
-// The root of a positive number with its flags. It neither overflows nor underflows, so it is inexact or nothing.
+// The root of a finite positive number with its flags, to the nearest and under an attribute. Each has a body of its own: one body with two callers would be compiled
+// as a call, with its answer in memory.
 ghost use mathlib.Core.Path.{_≡_};
-ghost use Prim.Native.Nat.{_≤_};
 ghost use Rattle.ieee.specs.Format.{b64, b32};
-ghost use Rattle.ieee.specs.Sqrt.{sqrtOf, sqrtFlags};
-ghost use Rattle.fmt_fields.specs.Raised.{flagsOf};
-ghost use Rattle.sqrt_number.specs.Split.{isRoot, Above, Leads, NearestRoot};
-use crate::by_table32;
-use crate::by_table64;
+ghost use Rattle.ieee.specs.Sqrt.{sqrtIn, sqrtFlagsIn, sqrtOf, sqrtFlags};
+ghost use Rattle.fmt_fields.specs.Raised.{attributeOf, flagsOf};
+ghost use Rattle.sqrt_number.specs.Split.{Above};
 use crate::lift_exponent;
+use crate::near::round_near;
+use crate::step_of;
+use crate::word_of;
 use fmt_decode::norm::norm_of;
+use fmt_fields::env::Attribute;
 use fmt_fields::env::Raised32;
 use fmt_fields::env::Raised64;
-use fmt_fields::env::inexact_if;
-use word_bits::pow;
-use word_wide::product::mul_lo;
-
-// Whether the whole number in the pattern of a root is the root: its square is the radicand. They are less than 2^64 apart, so the low words tell.
-fn is_root(frac: u32, sig: u64, up: u32, r: u64) -> bool
-    requires { ⌜ Leads frac sig × (4 ≤ up) × NearestRoot frac sig up r ⌝ }
-    ensures { λ e. ⌜ e ≡ isRoot frac sig up r ⌝ }
-{
-    let t = r - (up / 2 - 2) as u64 * pow(frac);
-    mul_lo(t, t) == sig << (frac + up % 2)
-}
+use sqrt_table::reciprocal::reciprocal;
+use sqrt_table::root::root24;
+use sqrt_table::root::root53;
 
 pub fn sqrt_number64_flags(x: u64) -> Raised64
     requires { ⌜ Above b64 x ⌝ }
@@ -30,11 +23,20 @@ pub fn sqrt_number64_flags(x: u64) -> Raised64
 {
     let n = norm_of(52, 11, x);
     let up = lift_exponent(52, 11, n);
-    let r = by_table64(n.sig, up);
-    Raised64 {
-        value: r,
-        flags: inexact_if(!is_root(52, n.sig, up, r)),
-    }
+    let word = word_of(52, n.sig, up);
+    let close = root53(word, reciprocal(step_of(52, n.sig, up)));
+    round_near(52, 11, Attribute::Even, close.root, close.rem, up)
+}
+
+pub fn sqrt_number64_in(attribute: Attribute, x: u64) -> Raised64
+    requires { ⌜ Above b64 x ⌝ }
+    ensures { λ r. ⌜ (r .value ≡ sqrtIn b64 (attributeOf attribute) x) × (flagsOf (r .flags) ≡ sqrtFlagsIn b64 (attributeOf attribute) x) ⌝ }
+{
+    let n = norm_of(52, 11, x);
+    let up = lift_exponent(52, 11, n);
+    let word = word_of(52, n.sig, up);
+    let close = root53(word, reciprocal(step_of(52, n.sig, up)));
+    round_near(52, 11, attribute, close.root, close.rem, up)
 }
 
 pub fn sqrt_number32_flags(x: u64) -> Raised32
@@ -43,9 +45,28 @@ pub fn sqrt_number32_flags(x: u64) -> Raised32
 {
     let n = norm_of(23, 8, x);
     let up = lift_exponent(23, 8, n);
-    let r = by_table32(n.sig, up);
+    let word = word_of(23, n.sig, up);
+    let close = root24(word, reciprocal(step_of(23, n.sig, up)));
+    let r = round_near(23, 8, Attribute::Even, close.root, close.rem, up);
+    let flags = r.flags;
     Raised32 {
-        value: r,
-        flags: inexact_if(!is_root(23, n.sig, up, r as u64)),
+        value: r.value as u32,
+        flags,
+    }
+}
+
+pub fn sqrt_number32_in(attribute: Attribute, x: u64) -> Raised32
+    requires { ⌜ Above b32 x ⌝ }
+    ensures { λ r. ⌜ (r .value ≡ sqrtIn b32 (attributeOf attribute) x) × (flagsOf (r .flags) ≡ sqrtFlagsIn b32 (attributeOf attribute) x) ⌝ }
+{
+    let n = norm_of(23, 8, x);
+    let up = lift_exponent(23, 8, n);
+    let word = word_of(23, n.sig, up);
+    let close = root24(word, reciprocal(step_of(23, n.sig, up)));
+    let r = round_near(23, 8, attribute, close.root, close.rem, up);
+    let flags = r.flags;
+    Raised32 {
+        value: r.value as u32,
+        flags,
     }
 }

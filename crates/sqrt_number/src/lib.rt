@@ -5,13 +5,14 @@ ghost use Prim.Native.Nat.{_+_, _-_, _*_, _/_, _%_, _≤_, _<_, _^_};
 ghost use lib.IntN.{pos, _+ℤ_};
 ghost use Rattle.ieee.specs.Format.{b64, b32};
 ghost use Rattle.ieee.specs.Pattern.{field};
-ghost use Rattle.ieee.specs.Round.{answer, ties-to-even};
+ghost use Rattle.ieee.specs.Round.{answer, even, ties-to-even};
 ghost use Rattle.ieee.specs.Scalbn.{scaled};
 ghost use Rattle.ieee.specs.Sqrt.{sqrtOf};
 ghost use Rattle.fmt_fields.specs.Width.{format, Fits};
 ghost use Rattle.fmt_decode.specs.Significand.{InRange};
 ghost use Rattle.sqrt_table.specs.Table.{Serves};
-ghost use Rattle.sqrt_number.specs.Split.{lift, halfOf, markedBy, wordOf, nearestOf, Above, Leads, Ready, Room, NearestRoot};
+ghost use Rattle.sqrt_number.specs.Split.{lift, halfOf, markedBy, wordOf, Above, Leads, Ready, RoundedRoot};
+use crate::near::round_near;
 use fmt_decode::norm::Norm;
 use fmt_decode::norm::norm_of;
 use fmt_decode::norm::unpack_normal;
@@ -19,11 +20,13 @@ use fmt_fields::env::Attribute;
 use round_step::round::round;
 use sqrt_digits::RootFloor;
 use sqrt_digits::floor_root;
+use sqrt_table::reciprocal::reciprocal;
 use sqrt_table::root::root24;
 use sqrt_table::root::root53;
 use word_bits::pow;
 
 pub mod flags;
+pub mod near;
 
 // The exponent with a constant added, so that it is not negative and is halved as a whole number.
 fn lift_exponent(frac: u32, expo: u32, n: Norm) -> u32
@@ -81,19 +84,6 @@ fn round_root(frac: u32, expo: u32, whole: RootFloor, up: u32) -> u64
     ).bits
 }
 
-// The pattern of the number nearest to a root, where that is normal. The next number is nearer exactly where the residual exceeds the root: the middle between
-// them has the square root² + root + 1/4.
-fn nearest_to_root(frac: u32, expo: u32, root: u64, rem: u64, up: u32) -> u64
-    requires { ⌜ Fits frac expo × Room (format frac expo) root up ⌝ }
-    ensures { λ r. ⌜ r ≡ nearestOf frac root rem up ⌝ }
-{
-    let below = (up / 2 - 2) as u64 * pow(frac) + root;
-    if rem > root {
-        return below + 1;
-    }
-    below
-}
-
 // The root of a finite positive number of any format, by digits.
 pub fn sqrt_by_digits(frac: u32, expo: u32, x: u64) -> u64
     requires { ⌜ Fits frac expo × Above (format frac expo) x ⌝ }
@@ -110,21 +100,23 @@ pub fn sqrt_by_digits(frac: u32, expo: u32, x: u64) -> u64
 }
 
 // The root of a significand with a lifted exponent, by the table. A body for each width, so that the compiler can lay it out for that width.
-// The contract leaves one answer: `nearest-unique` (proofs/Only.antt).
+// The contract leaves one answer: `rounded-unique` (proofs/Only.antt).
 fn by_table64(sig: u64, up: u32) -> u64
     requires { ⌜ Ready b64 sig up ⌝ }
-    ensures { λ r. ⌜ NearestRoot 52 sig up r ⌝ }
+    ensures { λ r. ⌜ RoundedRoot even 52 sig up r ⌝ }
 {
-    let close = root53(word_of(52, sig, up), step_of(52, sig, up));
-    nearest_to_root(52, 11, close.root, close.rem, up)
+    let word = word_of(52, sig, up);
+    let close = root53(word, reciprocal(step_of(52, sig, up)));
+    round_near(52, 11, Attribute::Even, close.root, close.rem, up).value
 }
 
 fn by_table32(sig: u64, up: u32) -> u32
     requires { ⌜ Ready b32 sig up ⌝ }
-    ensures { λ r. ⌜ NearestRoot 23 sig up r ⌝ }
+    ensures { λ r. ⌜ RoundedRoot even 23 sig up r ⌝ }
 {
-    let close = root24(word_of(23, sig, up), step_of(23, sig, up));
-    nearest_to_root(23, 8, close.root, close.rem, up) as u32
+    let word = word_of(23, sig, up);
+    let close = root24(word, reciprocal(step_of(23, sig, up)));
+    round_near(23, 8, Attribute::Even, close.root, close.rem, up).value as u32
 }
 
 // The root of a finite positive number, by the table.

@@ -9,6 +9,7 @@ use borrow.Author.Tests.{lt-ltb, le-ltb}
 use Rattle.algebra.proofs.Products.{times-le}
 use Rattle.sqrt_laws.specs.Near.{Near}
 use Rattle.sqrt_table.specs.Table.{entryOf, rowOf, first, past, Serves}
+use Rattle.sqrt_table.specs.Guess.{Starts}
 use Rattle.sqrt_table.proofs.Sweeps.{every-at}
 
 -- ---- the entries are those of the rows' words, and have 16 bits
@@ -49,8 +50,8 @@ served i m s = near (entryOf i) (between i m s)
     near x (lo, hi) = record { lo = omega arith; hi = omega arith; small = omega arith }
 
 -- the guess read there is near, and half a word
-pub start-near : (i m r : ℕ) → Serves i m → r ≡ entryOf i * 2 ^ 16 → Near (2 ^ 30) m r 8404992 × (r < 2 ^ 32)
-start-near i m r s e = (rw e (served i m s), omega (arith, entry-small i (s .at)))
+pub start-near : (m r : ℕ) → Starts m r → Near (2 ^ 30) m r 8404992 × (r < 2 ^ 32)
+start-near m r s = (rw (s .is) (served (s .step) m (s .serves)), omega (arith, s .is, entry-small (s .step) (s .serves .at)))
 
 -- ---- the step by the first seven bits of m, of which the first is 1, and by whether m is 2 or more
 pub serves-high : (j m : ℕ) → 64 ≤ j → j < 128 → j * 2 ^ 25 ≤ m → m ≤ (j + 1) * 2 ^ 25 → Serves (j - 64) m

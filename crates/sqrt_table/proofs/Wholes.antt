@@ -1,11 +1,12 @@
 -- A root by its residual and a root by digits agree: root, exactness and nearest number. Assumes nothing.
-use mathlib.Core.Path.{_≡_, sym, ap, _∙_}
-use mathlib.Core.Bool.{Bool, or-false}
-use Prim.Native.Nat.{ℕ, _+_, _*_, _-_, _/_, _%_, _^_, _<_}
+use mathlib.Core.Path.{_≡_, refl, sym, ap, _∙_}
+use mathlib.Core.Bool.{Bool, true, false, or-false}
+use Prim.Native.Nat.{ℕ, _+_, _*_, _-_, _%_, _^_, _≤_, _<_}
 use native.Mathlib.Omega.{arith}
 use lib.Dec.{eqb}
-use borrow.Author.Tests.{eq-eqb, ne-eqb, le-leb, lt-leb, lt-ltb, le-ltb}
+use borrow.Author.Tests.{eq-eqb, ne-eqb, eqb-true, eqb-false, lt-ltb, le-ltb}
 use Rattle.algebra.proofs.Products.{order}
+use Rattle.algebra.proofs.Roots.{sq-le}
 use Rattle.sqrt_laws.specs.Near.{Within}
 use Rattle.sqrt_digits.specs.Floor.{FloorRoot}
 use Rattle.sqrt_digits.proofs.Digits.{floor-unique}
@@ -18,45 +19,64 @@ low-words n q a r w l h i e =
     let t : n ≡ q * q + (n - q * q) = omega (arith, w .lo) in
     omega arith
 
--- ---- two tests of one difference
-met : (a b x y : ℕ) → a + x ≡ b + y → eqb a b ≡ eqb x y
-met a b x y e =
-    order a b
-    (λ l. order b a (λ k. eq-eqb a b (omega arith) ∙ sym (eq-eqb x y (omega arith))) (λ k. ne-eqb a b (omega arith) ∙ sym (ne-eqb x y (omega arith))))
-    (λ l. ne-eqb a b (omega arith) ∙ sym (ne-eqb x y (omega arith)))
+-- ---- two tests of one fact
+met : (a b x y : ℕ) → (x ≡ y → a ≡ b) → (a ≡ b → x ≡ y) → eqb a b ≡ eqb x y
+met a b x y to from = go (eqb x y) refl
+  where
+    go : (t : Bool) → eqb x y ≡ t → eqb a b ≡ t
+    go true e = eq-eqb a b (to (eqb-true x y e))
+    go false e = ne-eqb a b (λ i. eqb-false x y e (from i))
+
+-- ---- m is the root of n rounded down, k the whole number nearest to it, and b whether it is exact; the root with one digit more is m + k
+pub record Whole (n m k : ℕ) (b : Bool) : Type 0 where
+  pub floor : FloorRoot n m
+  pub longer : FloorRoot (4 * n) (m + k)
+  pub low : m ≤ k
+  pub high : k ≤ m + 1
+  pub exact : b ≡ eqb (m * m) n
+
+-- an exact root is also the nearest number, and exact with one digit more; and there is one of each
+module _ {n m k : ℕ} {b : Bool} (w : Whole n m k b) where
+  settled : m * m ≡ n → k ≡ m
+  settled i = omega (arith, w .low, sq-le (m + k) (2 * m) (omega (arith, w .longer .low)))
+
+  pub exact-nearest : b ≡ true → k ≡ m
+  exact-nearest e = settled (eqb-true (m * m) n (sym (w .exact) ∙ e))
+
+  pub longer-exact : b ≡ eqb ((m + k) * (m + k)) (4 * n)
+  longer-exact =
+      w .exact
+      ∙ met (m * m) n ((m + k) * (m + k)) (4 * n)
+      (λ i. order k m
+      (λ l. let e : k ≡ m = omega (arith, w .low) in omega (arith, ap (λ j. (m + j) * (m + j)) e))
+      (λ l. let e : k ≡ m + 1 = omega (arith, w .high) in absurd (omega (arith, ap (λ j. (m + j) * (m + j)) e))))
+      (λ i. omega (arith, ap (λ j. (m + j) * (m + j)) (settled i)))
+
+  pub whole-one : {m′ k′ : ℕ} {b′ : Bool} → Whole n m′ k′ b′ → (m ≡ m′) × (k ≡ k′) × (b ≡ b′)
+  whole-one {m′} {k′} v =
+      let i = floor-unique n m m′ (w .floor) (v .floor) in
+      let j = floor-unique (4 * n) (m + k) (m′ + k′) (w .longer) (v .longer) in
+      (i, omega arith, w .exact ∙ ap (λ j. eqb (j * j) n) i ∙ sym (v .exact))
+
+made : {n m k : ℕ} {b : Bool} → (m ≤ k) × (k ≤ m + 1) × (m * m ≤ n) × (n < (m + 1) * (m + 1)) × ((m + k) * (m + k) ≤ 4 * n) × (4 * n < (m + k + 1) * (m + k + 1))
+    → b ≡ eqb (m * m) n → Whole n m k b
+made (a, b, c, d, e, f) g = record { floor = record { low = c; high = d }; longer = record { low = e; high = f }; low = a; high = b; exact = g }
 
 module _ (n q rem : ℕ) (r : Residual n q rem) where
-  -- the root rounded down is q or the next, by whether the next square is at most n; it is exact where its residual is 0
+  -- a residual up to the root, up to twice the root, and past it
+  pub whole : Whole n (floorBy q rem) (nearestBy q rem) (exactBy q rem)
+  whole =
+      order rem q
+      (λ l. rw (le-ltb (2 * q) rem (omega arith), le-ltb q rem l, ne-eqb rem (2 * q + 1) (omega arith))
+      (made (omega (arith, r .sum)) (or-false (eqb rem 0) ∙ met rem 0 ((q + 0) * (q + 0)) n (λ e. omega (arith, r .sum)) (λ e. omega (arith, r .sum)))))
+      (λ l. order rem (2 * q)
+      (λ k. rw (le-ltb (2 * q) rem k, lt-ltb q rem l, ne-eqb rem 0 (omega arith), ne-eqb rem (2 * q + 1) (omega arith))
+      (made (omega (arith, r .sum)) (sym (ne-eqb ((q + 0) * (q + 0)) n (omega (arith, r .sum))))))
+      (λ k. rw (lt-ltb (2 * q) rem k, lt-ltb q rem l, ne-eqb rem 0 (omega arith))
+      (made (omega (arith, r .sum, r .near)) (met rem (2 * q + 1) ((q + 1) * (q + 1)) n (λ e. omega (arith, r .sum)) (λ e. omega (arith, r .sum))))))
+
+  -- so a root by digits is the same
   pub alike : (t : ℕ) (e : Bool) → FloorRoot n t × (e ≡ eqb (t * t) n) → (t ≡ floorBy q rem) × (e ≡ exactBy q rem)
   alike t e (f, i) =
-      order (2 * q + 1) rem
-      (λ l.
-      let t-is : t ≡ q + 1 = floor-unique n t (q + 1) f (record { low = omega (arith, r .sum); high = omega (arith, r .sum, r .near) }) in
-      let same : eqb (t * t) n ≡ eqb rem (2 * q + 1) = ap (λ k. eqb (k * k) n) t-is ∙ sym (met rem (2 * q + 1) ((q + 1) * (q + 1)) n (omega (arith, r .sum))) in
-      rw (le-leb (2 * q + 1) rem l, ne-eqb rem 0 (omega arith)) (t-is, i ∙ same))
-      (λ l.
-      let t-is : t ≡ q = floor-unique n t q f (record { low = omega (arith, r .sum); high = omega (arith, r .sum) }) in
-      let same : eqb (t * t) n ≡ eqb rem 0 = ap (λ k. eqb (k * k) n) t-is ∙ sym (met rem 0 (q * q) n (omega (arith, r .sum))) in
-      rw (lt-leb (2 * q + 1) rem l, ne-eqb rem (2 * q + 1) (omega arith)) (omega arith, i ∙ same ∙ sym (or-false (eqb rem 0))))
-
-  -- the root with one digit more exists
-  pub longer-root : (t : ℕ) × FloorRoot (4 * n) t
-  longer-root =
-      order (4 * ((q + 1) * (q + 1))) (4 * n)
-      (λ h. (2 * q + 2, record { low = omega arith; high = omega (arith, r .near) }))
-      (λ h. order ((2 * q + 1) * (2 * q + 1)) (4 * n)
-      (λ k. (2 * q + 1, record { low = k; high = omega arith }))
-      (λ k. (2 * q, record { low = omega (arith, r .sum); high = k })))
-
-  -- a root with one digit more, rounded by that digit, is the nearest number
-  pub nearest-alike : (t : ℕ) → FloorRoot (4 * n) t → (t + 1) / 2 ≡ nearestBy q rem
-  nearest-alike t f =
-      order rem q
-      (λ l.
-      let t-is : t ≡ 2 * q = floor-unique (4 * n) t (2 * q) f (record { low = omega (arith, r .sum); high = omega (arith, r .sum) }) in
-      rw (le-ltb q rem l) (omega arith))
-      (λ l.
-      rw (lt-ltb q rem l)
-      (order (4 * ((q + 1) * (q + 1))) (4 * n)
-      (λ h. let t-is : t ≡ 2 * q + 2 = floor-unique (4 * n) t (2 * q + 2) f (record { low = omega arith; high = omega (arith, r .near) }) in omega arith)
-      (λ h. let t-is : t ≡ 2 * q + 1 = floor-unique (4 * n) t (2 * q + 1) f (record { low = omega (arith, r .sum); high = omega arith }) in omega arith)))
+      let same = floor-unique n t (floorBy q rem) f (whole .floor) in
+      (same, i ∙ ap (λ k. eqb (k * k) n) same ∙ sym (whole .exact))

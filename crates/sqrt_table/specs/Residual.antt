@@ -2,7 +2,7 @@
 use Prim.Native.Nat.{ℕ, _+_, _*_, _<_}
 use mathlib.Core.Path.{_≡_}
 use mathlib.Core.Bool.{Bool, _||_, cond}
-use lib.Dec.{eqb, leb, ltb}
+use lib.Dec.{eqb, ltb}
 
 -- rem is n less the square of q, and √n is less than 3/2 above q
 pub record Residual (n q rem : ℕ) : Type 0 where
@@ -11,7 +11,7 @@ pub record Residual (n q rem : ℕ) : Type 0 where
 
 -- the root rounded down, whether it is exact, and the whole number nearest to it; there is no tie, since n is whole
 abbrev pub floorBy : ℕ → ℕ → ℕ
-floorBy q rem = q + cond (leb (2 * q + 1) rem) 1 0
+floorBy q rem = q + cond (ltb (2 * q) rem) 1 0
 
 abbrev pub exactBy : ℕ → ℕ → Bool
 exactBy q rem = eqb rem 0 || eqb rem (2 * q + 1)

@@ -3,11 +3,9 @@ ghost use mathlib.Core.Path.{_≡_};
 ghost use Prim.Native.Nat.{_-_, _*_, _/_, _%_, _≤_, _<_, _^_};
 ghost use Rattle.sqrt_laws.specs.Near.{Near, Within};
 ghost use Rattle.sqrt_laws.specs.Round.{rootBy, factor, next, last};
-ghost use Rattle.sqrt_table.specs.Table.{Serves};
 ghost use Rattle.sqrt_digits.specs.Floor.{pairs};
-ghost use Rattle.sqrt_table.specs.Guess.{Takes};
+ghost use Rattle.sqrt_table.specs.Guess.{Takes, Starts};
 ghost use Rattle.sqrt_table.specs.Residual.{Residual};
-use crate::reciprocal::reciprocal;
 use word_wide::product::mul_hi;
 use word_wide::product::mul_lo;
 
@@ -52,22 +50,20 @@ fn last_narrow(m: u64, r: u64) -> u64
 }
 
 // √m truncated to 24 bits. The remainder tells the compiler that the reciprocal root is half a word.
-fn guess_narrow(m: u64, i: u64) -> u64
-    requires { ⌜ (2 ^ 30 ≤ m) × (m < 2 ^ 32) × Serves i m ⌝ }
+fn guess_narrow(m: u64, r: u64) -> u64
+    requires { ⌜ (2 ^ 30 ≤ m) × (m < 2 ^ 32) × Starts m r ⌝ }
     ensures { λ q. ⌜ Within (m * 2 ^ 16) q × (q < 2 ^ 24) ⌝ }
 {
-    let r = reciprocal(i);
     let t = refine(m, r) % 0x1_0000_0000;
     last_narrow(m, t) / 64
 }
 
 // 1 / √m with 32 fraction bits, from the upper half of m.
-fn reciprocal_root(m: u64, i: u64) -> u64
-    requires { ⌜ (2 ^ 62 ≤ m) × Serves i (m / 2 ^ 32) ⌝ }
-    ensures { λ r. ⌜ (r < 2 ^ 32) × Near (2 ^ 62) m (r * 2 ^ 32) (10 * 2 ^ 32) ⌝ }
+fn reciprocal_root(m: u64, r: u64) -> u64
+    requires { ⌜ (2 ^ 62 ≤ m) × Starts (m / 2 ^ 32) r ⌝ }
+    ensures { λ q. ⌜ (q < 2 ^ 32) × Near (2 ^ 62) m (q * 2 ^ 32) (10 * 2 ^ 32) ⌝ }
 {
     let h = m / 0x1_0000_0000;
-    let r = reciprocal(i);
     let t = refine(h, r) % 0x1_0000_0000;
     refine(h, t)
 }
@@ -84,12 +80,12 @@ fn last_wide(m: u64, r: u64) -> u64
 }
 
 // √m truncated to 53 bits.
-fn guess_wide(m: u64, i: u64) -> u64
-    requires { ⌜ (2 ^ 62 ≤ m) × Serves i (m / 2 ^ 32) ⌝ }
+fn guess_wide(m: u64, r: u64) -> u64
+    requires { ⌜ (2 ^ 62 ≤ m) × Starts (m / 2 ^ 32) r ⌝ }
     ensures { λ q. ⌜ Within (m * 2 ^ 42) q × (q < 2 ^ 53) ⌝ }
 {
-    let r = reciprocal_root(m, i);
-    last_wide(m, r * 0x1_0000_0000) / 512
+    let t = reciprocal_root(m, r);
+    last_wide(m, t * 0x1_0000_0000) / 512
 }
 
 // The residual of such a q, m less its square. It is small, so the low words give it.
@@ -100,23 +96,24 @@ fn residual(m: u64, q: u64) -> u64
     std::num::wrapping_sub_u64(m << 42, mul_lo(q, q))
 }
 
-// The root of the first 24 pairs of bits of a word whose lower half is zero and whose step of the table is i.
-pub fn root24(m: u64, i: u64) -> NearRoot
-    requires { ⌜ (2 ^ 62 ≤ m) × (m % 2 ^ 32 ≡ 0) × Serves i (m / 2 ^ 32) ⌝ }
-    ensures { λ r. ⌜ Residual (pairs m 24) (r .root) (r .rem) ⌝ }
+// The root of the first 24 pairs of bits of a word whose lower half is zero, from the table's guess. The guess is read before, since one body with the table in it
+// would be too long for the compiler to lay into its callers.
+pub fn root24(m: u64, r: u64) -> NearRoot
+    requires { ⌜ (2 ^ 62 ≤ m) × (m % 2 ^ 32 ≡ 0) × Starts (m / 2 ^ 32) r ⌝ }
+    ensures { λ q. ⌜ Residual (pairs m 24) (q .root) (q .rem) ⌝ }
 {
     let h = m / 0x1_0000_0000;
-    let root = guess_narrow(h, i);
+    let root = guess_narrow(h, r);
     let rem = h * 0x1_0000 - root * root;
     NearRoot { root, rem }
 }
 
-// The root of the first 53 pairs of bits of a word whose step of the table is i.
-pub fn root53(m: u64, i: u64) -> NearRoot
-    requires { ⌜ (2 ^ 62 ≤ m) × Serves i (m / 2 ^ 32) ⌝ }
-    ensures { λ r. ⌜ Residual (pairs m 53) (r .root) (r .rem) ⌝ }
+// The root of the first 53 pairs of bits of a word.
+pub fn root53(m: u64, r: u64) -> NearRoot
+    requires { ⌜ (2 ^ 62 ≤ m) × Starts (m / 2 ^ 32) r ⌝ }
+    ensures { λ q. ⌜ Residual (pairs m 53) (q .root) (q .rem) ⌝ }
 {
-    let root = guess_wide(m, i);
+    let root = guess_wide(m, r);
     let rem = residual(m, root);
     NearRoot { root, rem }
 }

@@ -1,37 +1,49 @@
--- The parts are the number's, so is their root (Halves), and it is exact where its square is the radicand (RootFlags). Assumes nothing.
-use mathlib.Core.Path.{_≡_, ap, _∙_}
-use mathlib.Core.Bool.{not}
+-- The parts are the number's (Splits), and so are their root (Halves, Tables) and its flags (RootFlags). Assumes nothing.
+use Prim.Native.Nat.{_%_}
 use native.Mathlib.Omega.{arith}
-use borrow.Author.Needs.{needs}
 use Rattle.ieee.specs.Format.{b32}
-use Rattle.ieee.specs.Flags.{onlyInexact}
-use Rattle.fmt_fields.specs.Raised.{flagsOf}
+use Rattle.ieee.specs.Round.{even}
 use Rattle.fmt_fields.proofs.Widths.{fits32}
-use Rattle.sqrt_number.specs.Split.{Parts, Ready}
-use Rattle.sqrt_number.proofs.Halves.{ready, nearest-answers}
-use Rattle.sqrt_number.proofs.RootFlags.{root-flags}
-use Rattle.sqrt_number.proofs.Splits.{parts}
+use Rattle.sqrt_number.specs.Split.{Parts, Ready, Room}
+use Rattle.sqrt_number.proofs.Halves.{ready}
+use Rattle.sqrt_number.proofs.RootFlags.{nearest-row}
+use Rattle.sqrt_number.proofs.Splits.{parts, half-empty}
+use Rattle.sqrt_number.proofs.Tables.{begun, close, room, rounded-room}
 use Rattle.sqrt_number.proofs.flags.sqrt_number32_flags.Statement.{statement}
 use Rattle.sqrt_number.proofs.flags.sqrt_number32_flags.Tie as tie
 
-split : (c : tie.After-lift-exponent) → Parts b32 (c .before .before .args .x) (c .before .norm-of .result .sig) (c .lift-exponent .result)
-split c = let n = c .before in let s = n .before in parts b32 (s .args .x) (c .lift-exponent .ensures) (n .norm-of .ensures .0) (n .norm-of .ensures .1)
+module _ (c : tie.After-lift-exponent) where
+  abbrev s : tie.Start
+  s = c .before .before
 
--- what the table requires of the parts
-prepared : (c : tie.After-lift-exponent) → Ready b32 (c .before .norm-of .result .sig) (c .lift-exponent .result)
-prepared c = let s = c .before .before in ready fits32 (s .args .x) (s .pre) _ _ (split c) (omega arith)
+  split : Parts b32 (s .args .x) (c .before .norm-of .result .sig) (c .lift-exponent .result)
+  split = parts b32 (s .args .x) (c .lift-exponent .ensures) (c .before .norm-of .ensures .0) (c .before .norm-of .ensures .1)
+
+  prepared : Ready b32 (c .before .norm-of .result .sig) (c .lift-exponent .result)
+  prepared = ready fits32 (s .args .x) (s .pre) _ _ split (omega arith)
+
+abbrev word : tie.After-root24 → tie.After-word-of
+word c = c .before .before .before
+
+abbrev lifted : tie.After-root24 → tie.After-lift-exponent
+lifted c = word c .before
+
+root24-requires : tie.Need-root24-requires
+root24-requires c κs =
+    let t = c .before in
+    let w = t .before in
+    let l = w .before in
+    let (h, g) = begun b32 _ _ (prepared l) _ (w .word-of .ensures) _ _ (t .step-of .ensures) (c .reciprocal .ensures) in
+    (h, rw (w .word-of .ensures) (half-empty (l .before .norm-of .result .sig) (l .lift-exponent .result % 2)), g)
+
+roomy : (c : tie.After-root24) → Room b32 (c .root24 .result .root) (lifted c .lift-exponent .result)
+roomy c = room b32 _ _ (prepared (lifted c)) _ (word c .word-of .ensures) _ _ (c .root24 .ensures)
 
 returns : tie.Need-returns
 returns c =
-    let t = c .before .before in
-    let l = t .before in
-    let s = l .before .before in
-    let r = t .by-table32 .result in
-    let n = t .by-table32 .ensures in
-    let i : flagsOf (c .inexact-if .result) ≡ onlyInexact (not (c .before .is-root .result)) = c .inexact-if .ensures in (
-      nearest-answers fits32 (s .args .x) (s .pre) _ _ (split l) (omega arith) r n,
-      i ∙ ap (λ b. onlyInexact (not b)) (c .before .is-root .ensures) ∙ root-flags fits32 (s .args .x) (s .pre) _ _ (split l) (omega arith) r n,
-    )
+    let r = c .before .before in
+    let i = r .before in
+    nearest-row fits32 (s (lifted i) .args .x) (s (lifted i) .pre) _ _ (split (lifted i)) (omega arith) _ _ (close b32 _ _ (prepared (lifted i)) _ (word i .word-of .ensures) _ _ (i .root24 .ensures)) (r .round-near .ensures)
 
 pub sqrt-number32-flags-spec : {M : Type 1} → statement M
 sqrt-number32-flags-spec =
@@ -39,8 +51,10 @@ sqrt-number32-flags-spec =
     (tie.spec
     (λ c κs. (fits32, c .pre .some))
     (λ c κs. (fits32, c .norm-of .ensures .3))
-    (λ c κs. prepared c)
-    (λ c. search needs)
-    (λ c κs. let q = prepared (c .before) in (q .leads, q .from, c .by-table32 .ensures))
-    (λ c κs. search needs)
+    (λ c κs. prepared c .leads)
+    (λ c κs. (prepared (c .before) .leads, omega arith))
+    (λ c κs. c .step-of .ensures .at)
+    root24-requires
+    (λ c κs. (fits32, roomy c))
+    (λ c. let r = c .before .before in let i = r .before in record { fits = omega (arith, r .round-near .ensures .0, rounded-room b32 _ _ (roomy i) even (i .root24 .result .rem)) })
     returns)

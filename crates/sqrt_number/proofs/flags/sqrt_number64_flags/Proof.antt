@@ -1,37 +1,44 @@
--- The parts are the number's, so is their root (Halves), and it is exact where its square is the radicand (RootFlags). Assumes nothing.
-use mathlib.Core.Path.{_≡_, ap, _∙_}
-use mathlib.Core.Bool.{not}
+-- The parts are the number's (Splits), and so are their root (Halves, Tables) and its flags (RootFlags). Assumes nothing.
 use native.Mathlib.Omega.{arith}
-use borrow.Author.Needs.{needs}
 use Rattle.ieee.specs.Format.{b64}
-use Rattle.ieee.specs.Flags.{onlyInexact}
-use Rattle.fmt_fields.specs.Raised.{flagsOf}
 use Rattle.fmt_fields.proofs.Widths.{fits64}
 use Rattle.sqrt_number.specs.Split.{Parts, Ready}
-use Rattle.sqrt_number.proofs.Halves.{ready, nearest-answers}
-use Rattle.sqrt_number.proofs.RootFlags.{root-flags}
+use Rattle.sqrt_number.proofs.Halves.{ready}
+use Rattle.sqrt_number.proofs.RootFlags.{nearest-row}
 use Rattle.sqrt_number.proofs.Splits.{parts}
+use Rattle.sqrt_number.proofs.Tables.{begun, close, room}
 use Rattle.sqrt_number.proofs.flags.sqrt_number64_flags.Statement.{statement}
 use Rattle.sqrt_number.proofs.flags.sqrt_number64_flags.Tie as tie
 
-split : (c : tie.After-lift-exponent) → Parts b64 (c .before .before .args .x) (c .before .norm-of .result .sig) (c .lift-exponent .result)
-split c = let n = c .before in let s = n .before in parts b64 (s .args .x) (c .lift-exponent .ensures) (n .norm-of .ensures .0) (n .norm-of .ensures .1)
+module _ (c : tie.After-lift-exponent) where
+  abbrev s : tie.Start
+  s = c .before .before
 
--- what the table requires of the parts
-prepared : (c : tie.After-lift-exponent) → Ready b64 (c .before .norm-of .result .sig) (c .lift-exponent .result)
-prepared c = let s = c .before .before in ready fits64 (s .args .x) (s .pre) _ _ (split c) (omega arith)
+  split : Parts b64 (s .args .x) (c .before .norm-of .result .sig) (c .lift-exponent .result)
+  split = parts b64 (s .args .x) (c .lift-exponent .ensures) (c .before .norm-of .ensures .0) (c .before .norm-of .ensures .1)
+
+  prepared : Ready b64 (c .before .norm-of .result .sig) (c .lift-exponent .result)
+  prepared = ready fits64 (s .args .x) (s .pre) _ _ split (omega arith)
+
+abbrev word : tie.After-root53 → tie.After-word-of
+word c = c .before .before .before
+
+abbrev lifted : tie.After-root53 → tie.After-lift-exponent
+lifted c = word c .before
+
+root53-requires : tie.Need-root53-requires
+root53-requires c κs =
+    let t = c .before in
+    let w = t .before in
+    begun b64 _ _ (prepared (w .before)) _ (w .word-of .ensures) _ _ (t .step-of .ensures) (c .reciprocal .ensures)
+
+round-near-requires : tie.Need-round-near-requires
+round-near-requires c κs = (fits64, room b64 _ _ (prepared (lifted c)) _ (word c .word-of .ensures) _ _ (c .root53 .ensures))
 
 returns : tie.Need-returns
 returns c =
-    let t = c .before .before in
-    let l = t .before in
-    let s = l .before .before in
-    let r = t .by-table64 .result in
-    let n = t .by-table64 .ensures in
-    let i : flagsOf (c .inexact-if .result) ≡ onlyInexact (not (c .before .is-root .result)) = c .inexact-if .ensures in (
-      nearest-answers fits64 (s .args .x) (s .pre) _ _ (split l) (omega arith) r n,
-      i ∙ ap (λ b. onlyInexact (not b)) (c .before .is-root .ensures) ∙ root-flags fits64 (s .args .x) (s .pre) _ _ (split l) (omega arith) r n,
-    )
+    let i = c .before in
+    nearest-row fits64 (s (lifted i) .args .x) (s (lifted i) .pre) _ _ (split (lifted i)) (omega arith) _ _ (close b64 _ _ (prepared (lifted i)) _ (word i .word-of .ensures) _ _ (i .root53 .ensures)) (c .round-near .ensures)
 
 pub sqrt-number64-flags-spec : {M : Type 1} → statement M
 sqrt-number64-flags-spec =
@@ -39,7 +46,9 @@ sqrt-number64-flags-spec =
     (tie.spec
     (λ c κs. (fits64, c .pre .some))
     (λ c κs. (fits64, c .norm-of .ensures .3))
-    (λ c κs. prepared c)
-    (λ c κs. let q = prepared (c .before) in (q .leads, q .from, c .by-table64 .ensures))
-    (λ c κs. search needs)
+    (λ c κs. prepared c .leads)
+    (λ c κs. (prepared (c .before) .leads, omega arith))
+    (λ c κs. c .step-of .ensures .at)
+    root53-requires
+    round-near-requires
     returns)
