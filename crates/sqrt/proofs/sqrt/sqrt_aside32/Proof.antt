@@ -3,6 +3,8 @@ use mathlib.Core.Path.{sym, _∙_}
 use native.Mathlib.Omega.{arith}
 use borrow.Author.Needs.{needs}
 use Rattle.ieee.specs.Format.{b32}
+use Rattle.ieee.specs.Round.{ties-to-even}
+use Rattle.ieee.specs.Sqrt.{sqrtOf}
 use Rattle.fmt_fields.proofs.Widths.{fits32}
 use Rattle.sqrt.proofs.Asides.{rooted-above}
 use Rattle.sqrt.proofs.Rows.{sqrt-pattern}
@@ -10,7 +12,8 @@ use Rattle.sqrt.proofs.sqrt.sqrt_aside32.Statement.{statement}
 use Rattle.sqrt.proofs.sqrt.sqrt_aside32.Tie as tie
 
 returns : tie.Need-returns
-returns c = search needs
+unfolding sqrtOf
+returns c = c .sqrt-special .ensures ties-to-even
 
 sqrt-special-requires : tie.Need-sqrt-special-requires
 sqrt-special-requires c κs = (fits32, omega arith, sym (c .before .has-no-root .ensures) ∙ c .if1 .taken)
@@ -21,7 +24,7 @@ sqrt-number32-requires c κs = rooted-above b32 (c .before .before .args .x) (sy
 cast-result : tie.Need-cast-result
 cast-result c =
     let x = c .before .before .before .args .x in
-    record { fits = omega (arith, c .sqrt-special .ensures, sqrt-pattern fits32 x (omega arith)) }
+    record { fits = omega (arith, c .sqrt-special .ensures ties-to-even, sqrt-pattern fits32 ties-to-even x (omega arith)) }
 
 has-no-root-requires : tie.Need-has-no-root-requires
 has-no-root-requires c κs = search needs

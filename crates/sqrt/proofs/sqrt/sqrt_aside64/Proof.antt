@@ -3,13 +3,16 @@ use mathlib.Core.Path.{sym, _∙_}
 use native.Mathlib.Omega.{arith}
 use borrow.Author.Needs.{needs}
 use Rattle.ieee.specs.Format.{b64}
+use Rattle.ieee.specs.Round.{ties-to-even}
+use Rattle.ieee.specs.Sqrt.{sqrtOf}
 use Rattle.fmt_fields.proofs.Widths.{fits64}
 use Rattle.sqrt.proofs.Asides.{rooted-above}
 use Rattle.sqrt.proofs.sqrt.sqrt_aside64.Statement.{statement}
 use Rattle.sqrt.proofs.sqrt.sqrt_aside64.Tie as tie
 
 returns : tie.Need-returns
-returns c = search needs
+unfolding sqrtOf
+returns c = c .sqrt-special .ensures ties-to-even
 
 sqrt-special-requires : tie.Need-sqrt-special-requires
 sqrt-special-requires c κs = (fits64, omega arith, sym (c .before .has-no-root .ensures) ∙ c .if1 .taken)

@@ -3,6 +3,7 @@ use Prim.Native.Nat.{ℕ}
 use mathlib.Core.Path.{_≡_, sym, _∙_, subst}
 use borrow.Author.Needs.{needs}
 use Rattle.ieee.specs.Pattern.{Pattern}
+use Rattle.ieee.specs.Round.{ties-to-even}
 use Rattle.ieee.specs.Sqrt.{sqrtOf}
 use Rattle.fmt_fields.specs.Width.{format}
 use Rattle.sqrt.proofs.Asides.{rooted-above}
@@ -17,7 +18,8 @@ sqrt-by-digits-requires c κs =
 
 -- the answer is a pattern
 whole : (s : tie.Start) {r : ℕ} → let f = format (s .args .frac) (s .args .expo) in r ≡ sqrtOf f (s .args .x) → (r ≡ sqrtOf f (s .args .x)) × Pattern f r
-whole s e = let f = format (s .args .frac) (s .args .expo) in (e, subst (Pattern f) (sym e) (sqrt-pattern (s .pre .0) (s .args .x) (s .pre .1)))
+unfolding sqrtOf
+whole s e = let f = format (s .args .frac) (s .args .expo) in (e, subst (Pattern f) (sym e) (sqrt-pattern (s .pre .0) ties-to-even (s .args .x) (s .pre .1)))
 
 returns-2 : tie.Need-returns-2
 returns-2 c = whole (c .before .before .before) (c .sqrt-by-digits .ensures)
@@ -26,7 +28,8 @@ sqrt-special-requires : tie.Need-sqrt-special-requires
 sqrt-special-requires c κs = let s = c .before .before in (s .pre .0, s .pre .1, sym (c .before .has-no-root .ensures) ∙ c .if1 .taken)
 
 returns : tie.Need-returns
-returns c = whole (c .before .before .before) (c .sqrt-special .ensures)
+unfolding sqrtOf
+returns c = whole (c .before .before .before) (c .sqrt-special .ensures ties-to-even)
 
 has-no-root-requires : tie.Need-has-no-root-requires
 has-no-root-requires c κs = search needs

@@ -1,4 +1,4 @@
--- Each branch is a row of sqrt (Rows). Assumes nothing.
+-- Each branch is a row of sqrt under every attribute (Rows). Assumes nothing.
 use Prim.Native.Nat.{_%_, _<_}
 use mathlib.Core.Path.{_≡_, sym, ap, _∙_}
 use native.Mathlib.Omega.{arith}
@@ -23,24 +23,24 @@ module _ (c : tie.After-infinity) where
   magnitude-is = ap (λ t. s .args .x % t) (c .before .pow .ensures)
 
 returns : tie.Need-returns
-returns c =
+returns c a =
     let o = c .before in
-    sym (at-zero (f o) (s o .args .x) (infinity-some (s o .pre .0)) (s o .pre .1) (omega (arith, magnitude-is o, c .if1 .taken)))
+    sym (at-zero (f o) a (s o .args .x) (infinity-some (s o .pre .0)) (s o .pre .1) (omega (arith, magnitude-is o, c .if1 .taken)))
 
 some : (c : tie.Else1) → 0 < magnitude (f (c .before)) (s (c .before) .args .x)
 some c = omega (arith, magnitude-is (c .before), c .if1 .left)
 
 returns-2 : tie.Need-returns-2
-returns-2 c =
+returns-2 c a =
     let o = c .before .before in
-    sym (at-infinity (f o) (s o .args .x) (omega (arith, o .infinity .ensures, c .if2 .taken)))
+    sym (at-infinity (f o) a (s o .args .x) (omega (arith, o .infinity .ensures, c .if2 .taken)))
 
 returns-3 : tie.Need-returns-3
-returns-3 c =
+returns-3 c a =
     let i = c .before .before in
     let o = i .before in
     let l = past-of (f o) (s o .args .x) (s o .pre .2) (some i) (omega (arith, o .infinity .ensures, c .before .if2 .left)) in
-    c .nan .ensures ∙ sym (past-infinity (f o) (s o .args .x) l (some i))
+    c .nan .ensures ∙ sym (past-infinity (f o) a (s o .args .x) l (some i))
 
 add-pow : tie.Need-add-pow
 add-pow c = search needs
