@@ -1,8 +1,13 @@
 //! The tables at the end of a command, made of the records of its builds: an operation a row, and a run a row; then the
-//! entries that explained something, and the places that were met, with an operation a column.
+//! entries that explained something, and the places that were met, with an operation a column. Under attributes each
+//! operation has tables of its own, with an attribute a column.
 
+use crate::attribute_numbers::NUMBERS;
+use crate::forms::forms;
+use crate::operations::Form;
 use crate::places::all_places;
 use crate::record::Record;
+use crate::rounded_places::{BELOW_ZERO, names_of_answers, names_of_places};
 use std::collections::{BTreeMap, BTreeSet};
 
 const HEADS: [&str; 7] = [
@@ -17,7 +22,7 @@ const HEADS: [&str; 7] = [
 /// The columns of figures, which stand to the right.
 const FIGURES: [usize; 4] = [1, 2, 3, 4];
 
-/// All three, for a reader of plain text. A table that would have no row is left out.
+/// All of them, for a reader of plain text. A table that would have no row is left out.
 pub fn plain(records: &[Record]) -> String {
     let names = operations(records);
     let mut lines = vec![HEADS.map(String::from).to_vec()];
@@ -27,14 +32,40 @@ pub fn plain(records: &[Record]) -> String {
     let entries: BTreeSet<&str> =
         records.iter().flat_map(|run| run.explained.keys().map(String::as_str)).collect();
     let entries: Vec<&str> = entries.into_iter().collect();
+    let whole: Vec<Column> = names.iter().map(|name| (*name, *name)).collect();
     let mut text = table(&lines, |column| FIGURES.contains(&column));
-    text += &by_name("explained, by entry of docs/DIFFERENCES.md", &entries, records, |run| {
+    text += &by_name("explained, by entry of docs/DIFFERENCES.md", &entries, &whole, records, |run| {
         &run.explained
     });
-    text += &by_name("operands, by where the exact answer lies", &all_places(), records, |run| {
-        &run.places
-    });
-    text
+    text += &places("operands, by where the exact answer lies", &all_places(), &without(&whole), records);
+    text + &under_attributes(&names, records)
+}
+
+/// Two tables for each operation, and one for numbers.
+fn under_attributes(names: &[&str], records: &[Record]) -> String {
+    let mut text = String::new();
+    let parts = names.iter().filter_map(|name| Some((*name, name.split_once('.')?)));
+    let is_numbered = |name: &str| forms().iter().any(|form| form.name == name && form.form == Form::Numbered);
+    let (numbers, attributes): (Vec<_>, Vec<_>) = parts.partition(|(name, _)| is_numbered(name));
+    for of_one in attributes.chunk_by(|(_, one), (_, other)| one.0 == other.0) {
+        let columns: Vec<Column> = of_one.iter().map(|(name, (_, word))| (*word, *name)).collect();
+        let head = |what: &str| format!("{}: {what}, above zero/below", of_one[0].1.0);
+        text += &places(&head("where the exact value lies"), &names_of_places(), &columns, records);
+        text += &places(&head("what was answered"), names_of_answers(), &columns, records);
+    }
+    let columns: Vec<Column> = numbers.iter().map(|(name, (stem, _))| (*stem, *name)).collect();
+    text + &places("numbers for an attribute", NUMBERS, &columns, records)
+}
+
+/// What stands above a column, and the operation whose counts it has.
+type Column<'a> = (&'a str, &'a str);
+
+fn without<'a>(columns: &[Column<'a>]) -> Vec<Column<'a>> {
+    columns.iter().filter(|(_, name)| !name.contains('.')).copied().collect()
+}
+
+fn places(head: &str, names: &[&str], columns: &[Column], records: &[Record]) -> String {
+    by_name(head, names, columns, records, |run| &run.places)
 }
 
 /// The operations, each once, in the order of the run.
@@ -48,28 +79,37 @@ fn operations(records: &[Record]) -> Vec<&str> {
     names
 }
 
-/// A row for each name, and a column for each operation that has counts: both builds' together.
+/// A row for each name, and those of the columns that have counts: both builds' together. What has counts below zero too has
+/// both in one cell.
 fn by_name(
     head: &str,
     names: &[&str],
+    columns: &[Column],
     records: &[Record],
     counts: fn(&Record) -> &BTreeMap<String, u64>,
 ) -> String {
-    let mut columns = operations(records);
-    columns.retain(|name| records.iter().any(|run| run.operation == *name && !counts(run).is_empty()));
+    let has_counts = |name: &str| records.iter().any(|run| run.operation == name && !counts(run).is_empty());
+    let columns: Vec<&Column> = columns.iter().filter(|(_, name)| has_counts(name)).collect();
     if columns.is_empty() {
         return String::new();
     }
-    let heads = [head].into_iter().chain(columns.iter().copied()).map(String::from);
-    let mut lines: Vec<Vec<String>> = vec![heads.collect()];
+    let heads = [head].into_iter().chain(columns.iter().map(|(title, _)| *title));
+    let mut lines: Vec<Vec<String>> = vec![heads.map(String::from).collect()];
     for name in names {
-        let count = |column: &&str| {
-            let runs = records.iter().filter(|run| run.operation == **column);
-            let found: Vec<u64> = runs.filter_map(|run| counts(run).get(*name)).copied().collect();
+        let count = |column: &Column, name: &str| {
+            let runs = records.iter().filter(|run| run.operation == column.1);
+            let found: Vec<u64> = runs.filter_map(|run| counts(run).get(name)).copied().collect();
             if found.is_empty() { "-".to_string() } else { found.iter().sum::<u64>().to_string() }
         };
-        let line: Vec<String> = [name.to_string()].into_iter().chain(columns.iter().map(count)).collect();
-        lines.extend(line[1..].iter().any(|cell| cell != "-").then_some(line));
+        let below = format!("{name}{BELOW_ZERO}");
+        let is_signed = columns.iter().any(|column| count(column, &below) != "-");
+        let cell = |column: &&Column| match is_signed {
+            true => format!("{}/{}", count(column, name), count(column, &below)),
+            false => count(column, name),
+        };
+        let line: Vec<String> = [name.to_string()].into_iter().chain(columns.iter().map(cell)).collect();
+        let has_count = line[1..].iter().any(|cell| cell.contains(|one: char| one.is_ascii_digit()));
+        lines.extend(has_count.then_some(line));
     }
     format!("\n{}", table(&lines, |column| column > 0))
 }
@@ -207,5 +247,26 @@ mod tests {
         let table = squeezed(&plain(&runs));
         assert_eq!(table[5], "operands, by where the exact answer lies fma64 trunc64");
         assert_eq!(table[7..], ["x a quiet NaN 7 9", "y a quiet NaN 0 -"]);
+    }
+    #[test]
+    fn under_attributes_each_operation_has_tables_of_its_own() {
+        let names = ["fma64.up", "fma64.down", "sqrt32.up", "sqrt32.NUMBER"];
+        let mut runs = names.map(|name| Record { operation: name.to_string(), ..record("release", 0, &[]) });
+        let counts = |counts: &[(&str, u64)]| counts.iter().map(|(name, n)| (name.to_string(), *n)).collect();
+        let half = "half of the least subnormal number";
+        let below = format!("{half}{BELOW_ZERO}");
+        runs[0].places = counts(&[(half, 3), (&below, 0), ("-0 of terms of unlike signs", 5)]);
+        runs[1].places = counts(&[(&below, 4)]);
+        runs[2].places = counts(&[("a quiet NaN", 6)]);
+        runs[3].places = counts(&[("5", 7)]);
+        let table = squeezed(&plain(&runs));
+        let at = |head: &str| table.iter().position(|line| line == head).unwrap_or_else(|| panic!("{head}: {table:?}"));
+        let lies = at("fma64: where the exact value lies, above zero/below up down");
+        assert_eq!(table[lies + 2..lies + 4], ["half of the least subnormal number 3/0 -/4", ""]);
+        let made = at("fma64: what was answered, above zero/below up down");
+        assert_eq!(table[made + 2], "-0 of terms of unlike signs 5 -");
+        assert_eq!(table[at("sqrt32: where the exact value lies, above zero/below up") + 2], "a quiet NaN 6");
+        assert_eq!(table[at("numbers for an attribute sqrt32") + 2..], ["5 7"]);
+        assert!(!table.iter().any(|line| line.starts_with("operands, by where")));
     }
 }

@@ -105,18 +105,18 @@ fn infinities(format: Format, _: u64, random: &mut Random) -> Request {
 }
 
 /// The base, and so many sixteenths of the place there: z is some places off the base, and the product is the rest, with
-/// or without a digit as far below as there is room for.
-fn by_sixteenths(
+/// or without a digit as far below as there is room for, by one of the tails.
+pub fn by_sixteenths(
     format: Format,
-    base: u64,
-    sixteenths: i64,
+    (base, sixteenths): (u64, i64),
+    tails: &[i64],
     random: &mut Random,
 ) -> Request {
     let places = random.pick(&[0, 0, 1, -1, 2, -2, 5, -7, 16, -31]);
     let z = base.saturating_add_signed(places).min(format.largest_finite());
     let off = base as i64 - z as i64;
     let gap = 1 + random.below(u64::from(format.fraction_bits) - 12) as u32;
-    let rest = ((sixteenths + 16 * off) << gap) + i64::from(random.between(-1, 1));
+    let rest = ((sixteenths + 16 * off) << gap) + random.pick(tails);
     let place = last_place(format, base) - 4 - gap as i32;
     let flip = sign(format, random);
     if rest == 0 {
@@ -132,12 +132,12 @@ fn by_sixteenths(
 
 /// Tininess turns at -4 sixteenths, the answer at -8.
 fn about_the_least(format: Format, turn: u64, random: &mut Random) -> Request {
-    by_sixteenths(format, format.smallest_normal(), (turn % 41) as i64 - 28, random)
+    by_sixteenths(format, (format.smallest_normal(), (turn % 41) as i64 - 28), &[-1, 0, 1], random)
 }
 
 /// Overflow begins at 8.
 fn about_the_largest(format: Format, turn: u64, random: &mut Random) -> Request {
-    by_sixteenths(format, format.largest_finite(), (turn % 49) as i64 - 16, random)
+    by_sixteenths(format, (format.largest_finite(), (turn % 49) as i64 - 16), &[-1, 0, 1], random)
 }
 
 /// (2^p - i) (2^(p - 1) + j) with i about 2j: the product is a power of two less 2 j^2, so that j of every length brings it

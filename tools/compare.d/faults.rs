@@ -7,7 +7,8 @@ use crate::format::{Format, WIDTH_32, WIDTH_64};
 use crate::kinds::{in_values, known_of};
 use crate::plain::exact;
 use crate::request::{Answer, Request};
-use crate::run::{operation_of, requests, same};
+use crate::run::{operation_of, same};
+use crate::stream::requests;
 use crate::table;
 
 pub struct Fault {
@@ -162,7 +163,7 @@ fn exact_answers_are_no_faults() {
         let known = known_of(row);
         assert!([WIDTH_64, WIDTH_32].contains(&operation.format));
         for (_, request) in requests(row, 1, 20_000).take(20_000) {
-            let (right, mut crates) = (exact(operation, &request), (row.crates)(&request));
+            let (right, mut crates) = (exact(operation, &request), row.others(&request).unwrap());
             // What libm says of flags is another matter.
             crates.number = if row.alone.is_some() { right.number } else { crates.number };
             let is_known = in_values(&known, &request).is_some();

@@ -4,8 +4,9 @@ use crate::kinds::known_of;
 use crate::operations::Operation;
 use crate::plain::exact;
 use crate::request::{Answer, Request};
-use crate::run::{Run, Sides, Spoiled, operation_of, requests};
-use crate::table::{self, ROWS, Row};
+use crate::run::{Run, Sides, Spoiled, operation_of};
+use crate::stream::requests;
+use crate::table::{self, ROWS, Row, Status};
 use crate::tally::Tally;
 use crate::wrong_flags::WRONG;
 
@@ -18,9 +19,9 @@ pub fn run(row: &Row, count: usize, ours: &Spoil, crates: &Spoil) -> Tally {
     let mut tally = Tally::of_row(row, String::new(), String::new());
     for (_, request) in requests(row, 1, count as u64).take(count) {
         let right = exact(operation, &request);
-        let (mut spoiled, mut other) = (right, (row.crates)(&request));
+        let (mut spoiled, mut other) = (right, row.others(&request));
         ours(operation, &request, &mut spoiled);
-        crates(operation, &request, &mut other);
+        other.iter_mut().for_each(|answer| crates(operation, &request, answer));
         let sides =
             Sides { ours: spoiled, alone: Some(spoiled.word), crates: other, exact: Some(right) };
         run.settle(row, &request, sides, &mut tally);
@@ -68,7 +69,7 @@ fn the_head_of_a_run_meets_every_known_difference() {
 }
 #[test]
 fn a_status_that_libm_does_not_give_there_is_found() {
-    for row in rows_with_flags().filter(|row| row.has_status && oracle::api::STATUSES) {
+    for row in rows_with_flags().filter(|row| row.status == Status::Libms && oracle::api::STATUSES) {
         // As it would be with libm's text mended: no difference, and that is one from what is known of it.
         let mended = run(row, 3000, RIGHT, &|operation, request, answer| {
             answer.number = exact(operation, request).number

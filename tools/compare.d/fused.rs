@@ -51,7 +51,7 @@ const OTHERS: [Draw; 20] = [
 pub static FOR_FUSED: [Draw; 32] = joined(OTHERS, OF_FUSED);
 
 /// The three with their signs turned in such a way that x y and z keep theirs against each other.
-fn any_signs(format: Format, [x, y, z]: [u64; 3], random: &mut Random) -> Request {
+pub fn any_signs(format: Format, [x, y, z]: [u64; 3], random: &mut Random) -> Request {
     let (first, second) = (sign(format, random), sign(format, random));
     let (x, y) = if random.coin() { (x, y) } else { (y, x) };
     Request::three_words([x ^ first, y ^ second, z ^ first ^ second])

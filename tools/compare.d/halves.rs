@@ -39,7 +39,8 @@ mod tests {
             let operation = operation_of(row);
             for x in patterns(operation.format) {
                 let request = Request::word(x);
-                let differs = (row.crates)(&request).number != exact(operation, &request).number;
+                let libms = row.others(&request).unwrap();
+                let differs = libms.number != exact(operation, &request).number;
                 let is_known = is_power_below_one(operation.format, x)
                     || operation.format.is_signalling(x);
                 assert_eq!(differs, is_known, "{} {x:x}", row.name);

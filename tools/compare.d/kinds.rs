@@ -8,7 +8,7 @@ use crate::plain::below;
 use crate::random::Random;
 use crate::request::flags::{INEXACT, INVALID, OVERFLOW, UNDERFLOW};
 use crate::request::{Answer, Request};
-use crate::table::Row;
+use crate::table::{Row, Status};
 
 pub struct Kind {
     /// The entry's name in docs/DIFFERENCES.md.
@@ -145,9 +145,13 @@ pub static KINDS: [Kind; 12] = [
     },
 ];
 
-/// Whether libm's status of a row is compared: it must have one, and the text must be the one whose statuses are known.
+/// Whether what stands beside the other side's value is compared: of libm's statuses the text must be the one that is known.
 pub fn compares_status(row: &Row) -> bool {
-    row.has_status && oracle::api::STATUSES
+    match row.status {
+        Status::Nothing => false,
+        Status::Libms => oracle::api::STATUSES,
+        Status::Flags => true,
+    }
 }
 
 /// The known differences that a run of a row can meet: one in statuses only where these are compared.

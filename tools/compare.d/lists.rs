@@ -53,7 +53,8 @@ pub fn refusal(Shape { number, lengths: [input, output] }: Shape) -> u32 {
 
 /// What ours must make of a place.
 pub fn by_the_crate(row: &Row, x: u64) -> u64 {
-    LISTS.nans.ours(WIDTH_64, (row.crates)(&Request::word(x)).word)
+    let libms = row.others(&Request::word(x)).expect("libm has each operation of a list");
+    LISTS.nans.ours(WIDTH_64, libms.word)
 }
 
 /// Both lists in one piece of memory, with words of their own before, between and past them.

@@ -5,10 +5,13 @@
 #![cfg_attr(not(test), no_main)]
 #![cfg_attr(test, allow(dead_code))]
 
+mod attribute_numbers;
 mod closing;
 mod ends;
 #[cfg(test)]
 mod faults;
+#[cfg(test)]
+mod faults_attributes;
 #[cfg(test)]
 mod faults_flags;
 #[cfg(test)]
@@ -24,6 +27,7 @@ mod kinds;
 mod known;
 mod list_shapes;
 mod lists;
+mod locations;
 mod numbers;
 mod places;
 mod plain;
@@ -34,12 +38,18 @@ mod reductions;
 mod remainders;
 mod request;
 mod roots;
+mod rounded;
+mod rounded_places;
 mod run;
 #[cfg(sqrt_plain)]
 mod sqrt_plain;
 mod squares;
+mod stream;
 mod table;
 mod tally;
+mod turns;
+#[cfg(test)]
+mod wrong_attributes;
 #[cfg(test)]
 mod wrong_flags;
 
@@ -133,10 +143,10 @@ fn read_words(words: &[String]) -> Result<Words, String> {
     for name in rest.iter().filter(|name| *name != table::LISTS.name) {
         read.chosen.push(table::find(name).ok_or_else(|| format!("no operation '{name}'"))?);
     }
-    // Lines of lists are long, and are written only where they are asked for.
+    // Lines of lists are long, and are written only where they are asked for; those under an attribute are not libm's.
     read.lists = rest.len() > read.chosen.len() || rest.is_empty() && read.task != "lines";
     if rest.is_empty() {
-        read.chosen.extend(table::ROWS.iter());
+        read.chosen.extend(table::rows().filter(|row| read.task != "lines" || !row.name.contains('.')));
     }
     Ok(read)
 }

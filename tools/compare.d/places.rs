@@ -1,21 +1,26 @@
 //! Where an operand's exact answer lies, as far as flags turn on it. Each operand is in one place, told by the exact answer
-//! and not by how it was drawn, so that the counts at the end show what a run has met.
+//! and not by how it was drawn, so that the counts at the end show what a run has met. Under an attribute `rounded_places`
+//! tells where, and of a number for one `attribute_numbers`.
 
+use crate::attribute_numbers::{NUMBERS, number_of};
 use crate::big::Big;
 use crate::format::Format;
 use crate::halves::is_power_below_one;
-use crate::operations::{Operation, Task};
+use crate::operations::{Form, Operation, Task};
 use crate::plain::{self, below};
 use crate::request::flags::{OVERFLOW, UNDERFLOW};
 use crate::request::{Answer, Request};
+use crate::rounded_places as rounded;
 
+/// Places as a type, and their names in a list.
 macro_rules! places {
     ($of:ident, $names:ident: $($place:ident $name:literal,)+) => {
         #[derive(Clone, Copy)]
-        enum $of { $($place),+ }
-        static $names: &[&str] = &[$($name),+];
+        pub enum $of { $($place),+ }
+        pub const $names: &[&str] = &[$($name),+];
     };
 }
+pub(crate) use places;
 
 places! { Root, ROOTS:
     SignallingX "x a signalling NaN",
@@ -89,6 +94,8 @@ places! { Fused, FUSED:
 /// The names of an operation's places; none for an operation that has no flags.
 pub fn places_of(operation: &Operation) -> &'static [&'static str] {
     match operation.task {
+        _ if operation.form == Form::Numbered => NUMBERS,
+        _ if operation.form != Form::Plain => rounded::names(),
         Task::Sqrt => ROOTS,
         Task::Floor | Task::Trunc => WHOLES,
         Task::Scalbn => SCALED,
@@ -97,7 +104,12 @@ pub fn places_of(operation: &Operation) -> &'static [&'static str] {
     }
 }
 
-/// All names there are, in the order of the table at the end.
+/// Whether a run of an operation must meet the place.
+pub fn is_asked(operation: &Operation, place: usize) -> bool {
+    matches!(operation.form, Form::Plain | Form::Numbered) || rounded::is_asked(operation, place)
+}
+
+/// All names there are of operations without an attribute, in the order of the table at the end.
 pub fn all_places() -> Vec<&'static str> {
     let mut all: Vec<&'static str> = Vec::new();
     for name in FUSED.iter().chain(SCALED).chain(ROOTS).chain(WHOLES) {
@@ -108,7 +120,16 @@ pub fn all_places() -> Vec<&'static str> {
     all
 }
 
-/// The place of an operand in the list of its operation.
+/// The places of an operand in the list of its operation: one or, under an attribute, one for what was made of it too.
+pub fn places_met(operation: &Operation, request: &Request, exact: &Answer) -> [Option<usize>; 2] {
+    match operation.form {
+        Form::Plain => [Some(place_of(operation, request, exact)), None],
+        Form::Numbered => [Some(number_of(request.attribute) as usize), None],
+        Form::Attribute(_) => rounded::places_met(operation, request, exact),
+    }
+}
+
+/// Of an operation without an attribute.
 pub fn place_of(operation: &Operation, request: &Request, exact: &Answer) -> usize {
     match operation.task {
         Task::Sqrt => root(operation.format, request.x(), exact) as usize,

@@ -5,23 +5,32 @@ use crate::answers_flags as flagged;
 use crate::attributes::Attribute;
 use crate::draws_rounded::FMA_KINDS;
 use crate::format::Format;
-use crate::operations::{Field, Operation, Task};
+use crate::operations::{Field, Form, Operation, Task};
 use crate::raised::word_of;
 use crate::random::Random;
 use crate::request::{Answer, Request};
 
-/// The exact answer: to nearest even, with its flags where the operation has any.
+/// The exact answer: under the attribute or to nearest even, with its flags where the operation has any.
 pub fn exact(operation: &Operation, request: &Request) -> Answer {
-    if let Some(answer) = under(Attribute::Even, operation, request) {
-        return answer;
-    }
+    let named = match operation.form {
+        Form::Plain => under(Attribute::Even, operation, request),
+        Form::Attribute(attribute) => under(attribute, operation, request),
+        Form::Numbered => None,
+    };
+    named.unwrap_or_else(|| judged(operation, request))
+}
+
+/// By the plain program's own entry, which says too what it makes of the number of an attribute.
+fn judged(operation: &Operation, request: &Request) -> Answer {
     let mut answer = Answer::default();
     for field in answers::judge(operation, &request.fields(operation)) {
         match field {
             Field::Word(word) => answer.word = word,
             Field::Signed(number) => answer.number = number.into(),
+            Field::Unsigned(number) if operation.form == Form::Numbered => answer.refused = number,
             Field::Unsigned(number) => answer.number = number.into(),
-            _ => unreachable!("only the list call answers by more"),
+            Field::Flags(raised) => answer.number = word_of(raised).into(),
+            Field::Words(_) => unreachable!("only the list call answers by a list"),
         }
     }
     answer
@@ -77,6 +86,15 @@ mod tests {
         assert_eq!(of(scalbn.format.one(), -1075), flags::UNDERFLOW | flags::INEXACT);
         assert_eq!(of(scalbn.format.infinity() + 1, 0), flags::INVALID);
         assert_eq!(of(scalbn.format.one(), 1), 0);
+    }
+    #[test]
+    fn a_number_is_an_attribute_or_refused() {
+        let numbered = crate::forms::of_stem("scalbn64").last().unwrap();
+        let of = |attribute| {
+            exact(numbered, &Request { attribute, ..Request::word_and_number(numbered.format.one(), 1024) })
+        };
+        let largest = Answer::flags(numbered.format.largest_finite(), flags::OVERFLOW | flags::INEXACT);
+        assert_eq!((of(1), of(5)), (largest, Answer { refused: 10, ..Answer::default() }));
     }
     #[test]
     fn below_is_next_to_the_exact_value() {

@@ -2,18 +2,18 @@
 
 use crate::kinds::{in_values, known_of};
 use crate::lines::write_request;
-use crate::places::places_of;
 use crate::plain::exact;
-use crate::request::Beside;
-use crate::run::{Run, operation_of, requests};
-use crate::table::{Judge, LATER, Row};
+use crate::request::{Answer, Beside};
+use crate::run::{Run, operation_of};
+use crate::stream::requests;
+use crate::table::{OTHER, Row};
 use crate::tally::Tally;
 use std::collections::{BTreeMap, HashSet};
 use std::io::Write;
 
-/// `count` different requests, with libm's values, or the plain program's where libm's own text is not given, and the plain
-/// program's flags. Where any two NaNs are equal the canonical one is written, and operands on which libm's value is known
-/// to differ are left out, so that what is written is what ours must answer.
+/// `count` different requests, with libm's values, or the plain program's where libm's own text is not given or it has no
+/// such operation, and the plain program's flags. Where any two NaNs are equal the canonical one is written, and operands on
+/// which libm's value is known to differ are left out, so that what is written is what ours must answer.
 pub fn print_lines(row: &Row, seed: u64, count: u64) {
     let operation = operation_of(row);
     let known = known_of(row);
@@ -22,17 +22,18 @@ pub fn print_lines(row: &Row, seed: u64, count: u64) {
         if seen.len() as u64 == count {
             break;
         }
-        let crates = (row.crates)(&request);
-        let mut answer = match row.beside {
-            Beside::Flags => exact(operation, &request),
-            _ => crates,
-        };
-        if row.judge != Judge::Plain(LATER) {
-            if in_values(&known, &request).is_some() {
-                continue;
+        let crates = row.crates.filter(|other| other.who == OTHER).map(|libm| (libm.answer)(&request));
+        let answer = match crates {
+            None => exact(operation, &request),
+            Some(_) if in_values(&known, &request).is_some() => continue,
+            Some(crates) => {
+                let word = row.nans.ours(operation.format, crates.word);
+                match row.beside {
+                    Beside::Flags => Answer { word, ..exact(operation, &request) },
+                    _ => Answer { word, ..crates },
+                }
             }
-            answer.word = row.nans.ours(operation.format, crates.word);
-        }
+        };
         let text = write_request(operation, &request.fields(operation));
         if seen.insert(text.clone()) {
             println!("{text} -> {}", answer.text(operation, row.beside));
@@ -75,11 +76,7 @@ impl Record {
             unexplained: tally.unexplained,
             panics: tally.panics,
             explained: tally.explained_by().map(|(entry, n)| (entry.to_string(), n)).collect(),
-            places: places_of(tally.operation)
-                .iter()
-                .zip(&tally.places)
-                .map(|(place, n)| (place.to_string(), *n))
-                .collect(),
+            places: tally.counted_places().map(|(place, n)| (place.to_string(), n)).collect(),
             unmet: tally.unmet.iter().map(|entry| entry.to_string()).collect(),
             beside: tally.beside.to_string(),
             nans: tally.nans.to_string(),

@@ -1,13 +1,14 @@
 //! A request and an answer as plain numbers, cheap enough for billions of them, and the same as fields of a line. Those of
 //! the list call are its own.
 
-use crate::operations::{Field, Kind, Operation};
+use crate::operations::{Field, Form, Kind, Operation};
 
-/// Words, each in the order of the line, and at most one decimal number.
+/// Words, each in the order of the line, at most one decimal number, and the number of the attribute where there is one.
 #[derive(Clone, Copy, Debug, Default, PartialEq, Eq)]
 pub struct Request {
     pub words: [u64; 3],
     pub number: i64,
+    pub attribute: u32,
 }
 
 /// The flags of an answer in one word: libm's bits.
@@ -46,13 +47,17 @@ pub enum Beside {
     Flags,
     Quotient,
     Refusal,
+    /// Under an attribute: a refusal, and flags.
+    RefusalAndFlags,
 }
 
-/// The word, and the number beside it: flags in a word, a quotient, a refusal.
+/// The word, and the number beside it: flags in a word, a quotient, a refusal. Under an attribute flags are the number, and
+/// the refusal stands by itself.
 #[derive(Clone, Copy, Debug, Default, PartialEq, Eq)]
 pub struct Answer {
     pub word: u64,
     pub number: i64,
+    pub refused: u32,
 }
 
 impl Request {
@@ -106,6 +111,8 @@ impl Request {
                     words += 1;
                 }
                 Field::Signed(number) => request.number = (*number).into(),
+                // Before any word stands the number of an attribute.
+                Field::Unsigned(number) if words == 0 => request.attribute = *number,
                 Field::Unsigned(number) => request.number = (*number).into(),
                 _ => unreachable!("only the list call takes more"),
             }
@@ -121,7 +128,9 @@ impl Request {
             Kind::Unsigned => Some(Field::Unsigned(self.number as u32)),
             _ => None,
         };
-        operation.operand_kinds().iter().filter_map(field).collect()
+        let numbered = operation.form == Form::Numbered;
+        let attribute = numbered.then_some(Field::Unsigned(self.attribute)).into_iter();
+        attribute.chain(operation.operand_kinds().iter().filter_map(field)).collect()
     }
 }
 
@@ -130,7 +139,7 @@ impl Answer {
         Answer { word, ..Answer::default() }
     }
     pub fn flags(word: u64, flags: u32) -> Answer {
-        Answer { word, number: flags.into() }
+        Answer { word, number: flags.into(), ..Answer::default() }
     }
     pub fn both((word, status): (u64, u32)) -> Answer {
         Answer::flags(word, status)
@@ -153,6 +162,9 @@ impl Answer {
             Beside::Flags => format!("{word} {}", flags::text(self.number)),
             Beside::Quotient => format!("{word} {}", self.number),
             Beside::Refusal => format!("{} {word}", self.number),
+            Beside::RefusalAndFlags => {
+                format!("{} {word} {}", self.refused, flags::text(self.number))
+            }
         }
     }
 }
@@ -172,5 +184,7 @@ mod tests {
         let raised = flags::INEXACT | flags::OVERFLOW;
         assert_eq!(text("sqrt32", Answer::flags(0, raised), Beside::Flags), "00000000 OVERFLOW+INEXACT");
         assert_eq!(text("sqrt32", Answer::flags(0, 3), Beside::Flags), "00000000 flags 0x3");
+        let refused = Answer { refused: 10, ..Answer::default() };
+        assert_eq!(text("sqrt32", refused, Beside::RefusalAndFlags), "10 00000000 OK");
     }
 }

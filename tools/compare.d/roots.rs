@@ -59,23 +59,29 @@ fn square_of_a_midpoint(format: Format, _: u64, random: &mut Random) -> Request 
     Request::word(moved(format, square, random.between(-1, 1)))
 }
 
-/// x 2^p = n^2 - c, n a midpoint and c as small as it can be: the squares of odd numbers are 1 modulo 8, so that each
-/// such c has a root modulo 2^p, and n is one of those.
 fn nearest_to_a_tie(format: Format, turn: u64, random: &mut Random) -> Request {
-    let longest = format.fraction_bits + 2;
+    nearest_to(format, format.fraction_bits + 2, turn, random)
+}
+
+/// x 2^p = n^2 - c, n a number of so many digits, a significand or a midpoint, and c as small as it can be: the squares of
+/// odd numbers are 1 modulo 8, so that each such c has a root modulo 2^p, and n is one of those.
+pub fn nearest_to(format: Format, length: u32, turn: u64, random: &mut Random) -> Request {
     let c = 1 + 8 * i64::from(random.between(-4, 4));
     let mut roots = Vec::new();
-    for p in [longest, longest + 1] {
+    let most = 2 * length - format.fraction_bits - 1;
+    for p in [most - 1, most] {
         let root = root_modulo(c, p);
         let modulus = 1u64 << p;
-        for n in [
+        for low in [
             root,
             modulus - root,
             (root + modulus / 2) % modulus,
             modulus - (root + modulus / 2) % modulus,
         ] {
+            // Where p is less than the length, the first digit stands above the root.
+            let n = if p < length { low | modulus } else { low };
             let x = ((u128::from(n) * u128::from(n)) as i128 - i128::from(c)) >> p;
-            let fits = n >> (longest - 1) == 1 && x >> format.fraction_bits == 1;
+            let fits = n >> (length - 1) == 1 && x >> format.fraction_bits == 1;
             roots.extend(fits.then_some((x as u128, p)));
         }
     }

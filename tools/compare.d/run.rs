@@ -1,14 +1,14 @@
 //! The runs: operands are drawn or counted through, both sides are called, and each answer is judged.
 
-use crate::cases::Requests;
-use crate::kinds::{Case, compares_status, in_status, in_values, known_of};
+use crate::forms::forms;
+use crate::kinds::{Case, compares_status, in_status, in_values};
 use crate::lines::write_request;
-use crate::operations::{self, Kind, Operation, Task};
-use crate::places::place_of;
+use crate::operations::{self, Form, Kind, Operation, Task};
+use crate::places::places_met;
 use crate::plain::exact;
-use crate::random::Random;
 use crate::request::{Answer, Beside, Request};
 use crate::squares;
+use crate::stream::{attributes, requests};
 use crate::table::{Judge, Nans, OTHER, Row};
 use crate::tally::{Progress, Tally, kind_names};
 use std::panic::{AssertUnwindSafe, catch_unwind};
@@ -16,8 +16,6 @@ use std::sync::Mutex;
 
 /// Differences beyond these are counted and not printed.
 pub const PRINTED: u64 = 10;
-/// The plain program's own draws at the head of a run: exact numbers of thousands of digits take their time.
-const MOST_BUILT: u64 = 20_000;
 
 /// A side that is made wrong on purpose, to show that the runs see it.
 #[derive(Clone, Copy, Debug, PartialEq, Eq)]
@@ -26,6 +24,8 @@ pub enum Spoiled {
     Ours,
     /// What stands beside our word: flags, a quotient, a refusal.
     Number,
+    /// Under an attribute: our refusal, which stands beside flags.
+    Refusal,
     /// Our call that gives the value alone.
     Alone,
     Crate,
@@ -40,6 +40,7 @@ impl Spoiled {
         match text {
             "ours" => Ok(Spoiled::Ours),
             "number" => Ok(Spoiled::Number),
+            "refusal" => Ok(Spoiled::Refusal),
             "alone" => Ok(Spoiled::Alone),
             "crate" => Ok(Spoiled::Crate),
             "status" => Ok(Spoiled::Status),
@@ -63,7 +64,8 @@ pub struct Sides {
     pub ours: Answer,
     /// What our call for the value alone gave, where there is one.
     pub alone: Option<u64>,
-    pub crates: Answer,
+    /// What the side beside ours gave, where there is one.
+    pub crates: Option<Answer>,
     /// The plain program's answer, where that judges.
     pub exact: Option<Answer>,
 }
@@ -86,7 +88,8 @@ pub fn caught<T>(side: impl FnOnce() -> T) -> Result<T, String> {
 }
 
 pub fn operation_of(row: &Row) -> &'static Operation {
-    operations::find(row.name).expect("each row has the name of an operation of docs/LINES.md")
+    let form = || forms().iter().find(|form| form.name == row.name);
+    operations::find(row.name).or_else(form).expect("each row has the name of an operation of docs/LINES.md")
 }
 
 impl Run {
@@ -106,8 +109,9 @@ impl Run {
         let kinds = tally.kinds_text(kind_names(row));
         let tally = tally.close();
         println!("{}: of these {kinds}", row.name);
-        if let Judge::Plain(beside) = row.judge {
-            println!("{}: the plain program judged every answer, ours and {beside}", row.name);
+        if row.judge == Judge::Plain {
+            let beside = row.crates.map_or(String::new(), |other| format!(", ours and {}", other.who));
+            println!("{}: the plain program judged every answer{beside}", row.name);
         }
         tally
     }
@@ -115,9 +119,11 @@ impl Run {
     /// Every pattern of a function of one 32-bit operand.
     pub fn all_patterns(&self, row: &Row) -> Result<Tally, String> {
         let operation = operation_of(row);
-        if operation.format.width != 32 || operation.operand_kinds() != [Kind::Word] {
+        let takes_one = operation.operand_kinds() == [Kind::Word] && operation.form != Form::Numbered;
+        if operation.format.width != 32 || !takes_one {
             return Err(format!("{} is not a function of one 32-bit operand", row.name));
         }
+        let attribute = attributes(operation, self.seed)();
         // The plain program's roots would take ten minutes.
         let judge: Exact = match operation.task {
             Task::Sqrt => squares::exact,
@@ -127,7 +133,8 @@ impl Run {
         let mut progress = Progress::new();
         for block in 0..1u64 << 12 {
             for low in 0..1u64 << 20 {
-                self.try_one(row, judge, &Request::word(block << 20 | low), &mut tally);
+                let request = Request { attribute, ..Request::word(block << 20 | low) };
+                self.try_one(row, judge, &request, &mut tally);
             }
             progress.tell(row.name, block, 1 << 12);
         }
@@ -137,13 +144,14 @@ impl Run {
 
     fn try_one(&self, row: &Row, judge: Exact, request: &Request, tally: &mut Tally) {
         let sides = || {
-            let crates = (row.crates)(request);
-            let is_judged = matches!(row.judge, Judge::Plain(_));
+            let ours = (row.ours)(request);
+            let crates = row.others(request);
+            let guess = crates.unwrap_or(ours).word;
             Sides {
-                ours: (row.ours)(request),
+                ours,
                 alone: row.alone.map(|alone| alone(request)),
                 crates,
-                exact: is_judged.then(|| judge(tally.operation, request, crates.word)),
+                exact: (row.judge == Judge::Plain).then(|| judge(tally.operation, request, guess)),
             }
         };
         match caught(sides) {
@@ -162,39 +170,48 @@ impl Run {
         if tally.tried % 1000 == 0 {
             self.spoil(tally.operation, &mut sides);
         }
-        if row.beside == Beside::Refusal {
-            *tally.refusals.entry(sides.ours.number).or_default() += 1;
-        }
-        match (row.judge, sides.exact) {
-            (Judge::Plain(beside), Some(exact)) => {
-                settle_ours(row, request, &sides, &exact, tally);
-                settle_other(row, request, &sides.crates, &exact, beside, tally);
-                tally.places[place_of(tally.operation, request, &exact)] += 1;
-            }
-            _ if !same(row.nans, tally.operation, &sides.ours, &sides.crates) => {
-                let texts = [&sides.ours, &sides.crates].map(|one| text_of(row, one));
-                report(row, request, &texts[0], OTHER, &texts[1], tally);
+        match row.beside {
+            Beside::Refusal => *tally.refusals.entry(sides.ours.number).or_default() += 1,
+            Beside::RefusalAndFlags => {
+                *tally.refusals.entry(sides.ours.refused.into()).or_default() += 1
             }
             _ => {}
+        }
+        if let Some(exact) = sides.exact {
+            settle_ours(row, request, &sides, &exact, tally);
+            if let (Some(crates), Some(other)) = (&sides.crates, row.crates) {
+                settle_other(row, request, crates, &exact, other.who, tally);
+            }
+            let places = places_met(tally.operation, request, &exact);
+            places.into_iter().flatten().for_each(|place| tally.places[place] += 1);
+        } else if let Some(crates) = sides.crates {
+            if !same(row.nans, tally.operation, &sides.ours, &crates) {
+                let texts = [&sides.ours, &crates].map(|one| text_of(row, one));
+                report(row, request, &texts[0], OTHER, &texts[1], tally);
+            }
         }
     }
 
     fn spoil(&self, operation: &Operation, sides: &mut Sides) {
+        let Sides { ours, alone, crates, exact } = sides;
         match self.spoiled {
             Spoiled::Nothing => {}
-            Spoiled::Ours => sides.ours.word ^= 1,
-            Spoiled::Number => sides.ours.number ^= 32,
-            Spoiled::Alone => sides.alone.iter_mut().for_each(|word| *word ^= 1),
+            Spoiled::Ours => ours.word ^= 1,
+            Spoiled::Number => ours.number ^= 32,
+            Spoiled::Refusal => ours.refused ^= 10,
+            Spoiled::Alone => alone.iter_mut().for_each(|word| *word ^= 1),
             // Any two NaNs may count as the same.
-            Spoiled::Crate if operation.format.is_nan(sides.crates.word) => sides.crates.word = 0,
-            Spoiled::Crate => sides.crates.word ^= 1,
-            Spoiled::Status => sides.crates.number ^= 4,
-            Spoiled::Judge => sides.exact.iter_mut().for_each(|exact| exact.word ^= 1),
+            Spoiled::Crate => crates.iter_mut().for_each(|crates| match operation.format.is_nan(crates.word) {
+                true => crates.word = 0,
+                false => crates.word ^= 1,
+            }),
+            Spoiled::Status => crates.iter_mut().for_each(|crates| crates.number ^= 4),
+            Spoiled::Judge => exact.iter_mut().for_each(|exact| exact.word ^= 1),
         }
     }
 }
 
-/// How the exact answer is found; libm's value may be taken for a guess.
+/// How the exact answer is found; the value of the side beside ours, or ours, may be taken for a guess.
 type Exact = fn(&Operation, &Request, u64) -> Answer;
 
 fn by_the_plain_program(operation: &Operation, request: &Request, _: u64) -> Answer {
@@ -242,7 +259,7 @@ fn settle_other(
         explained.into_iter().flatten().for_each(|place| tally.explained[place] += 1);
         return;
     }
-    let beside = if compares_status(row) { row.beside } else { Beside::Nothing };
+    let beside = if compares_status(row) { Beside::Flags } else { Beside::Nothing };
     let crates = crates.text(tally.operation, beside);
     report(row, request, &text_of(row, exact), who, &crates, tally);
 }
@@ -273,30 +290,6 @@ fn report(
     let exact = text_of(row, &exact(operation, request));
     let request = write_request(operation, &request.fields(operation));
     println!("difference: {request} -> {right}; {who} gives {other}; exact: {exact}");
-}
-
-/// The stream of requests, each with its kind: the first operands of each known difference; the plain program's grid in any
-/// order, at most half of the count, so that a short run too has all classes; some of its drawn boundary cases, which take
-/// longer to make; then the row's own draws.
-pub fn requests(row: &Row, seed: u64, count: u64) -> impl Iterator<Item = (usize, Request)> {
-    let operation = operation_of(row);
-    let (draws, format) = (row.draws, operation.format);
-    let kinds = draws.len() as u64;
-    let mut random = Random::new(seed, 1000);
-    let mut built = Requests::new(operation, seed);
-    let mut grid: Vec<Request> =
-        (0..built.grid_left()).map(|_| Request::of_fields(&built.next())).collect();
-    grid.sort_by_cached_key(|_| random.word());
-    grid.truncate((count / 2) as usize);
-    let boundaries =
-        (0..(count / 20).min(MOST_BUILT)).map(move |_| Request::of_fields(&built.next()));
-    let drawn = (0..).map(move |turn: u64| {
-        let kind = (turn % kinds) as usize;
-        (kind + 2, (draws[kind].make)(format, turn / kinds, &mut random))
-    });
-    let heads = known_of(row).into_iter().map(move |kind| (1, (kind.first)(format)));
-    let grid = grid.into_iter().map(|request| (0, request));
-    heads.chain(grid).chain(boundaries.map(|request| (1, request))).chain(drawn)
 }
 
 #[cfg(test)]
@@ -331,39 +324,35 @@ mod tests {
         assert!(!counts_as_same(Nans::BitForBit, NAN, NAN | 1));
     }
     #[test]
-    fn every_row_has_an_operation_and_makes_its_count() {
-        for row in &crate::table::ROWS {
-            assert_eq!(requests(row, 1, 3000).take(3000).count(), 3000);
-        }
-    }
-    #[test]
     fn every_kind_of_every_row_is_counted() {
         let run = run_spoiled(Spoiled::Nothing);
-        for row in &crate::table::ROWS {
+        for row in crate::table::rows() {
             let tally = run.drawn(row, 3000);
             assert!(tally.is_clean() && tally.kinds.iter().all(|count| *count > 0));
             assert_eq!(tally.kinds.iter().sum::<u64>(), 3000);
-            let has_refusals = row.name.starts_with("reduce");
-            assert_eq!(tally.refusals.keys().eq([&0, &4, &5]), has_refusals);
+            let refusals: &[i64] = match row.beside {
+                Beside::Refusal => &[0, 4, 5],
+                Beside::RefusalAndFlags if row.name.ends_with("NUMBER") => &[0, 10],
+                Beside::RefusalAndFlags => &[0],
+                _ => &[],
+            };
+            assert!(tally.refusals.keys().eq(refusals), "{}", row.name);
         }
     }
     #[test]
-    fn a_spoiled_side_is_seen_in_every_row() {
-        for spoiled in [Spoiled::Ours, Spoiled::Number, Spoiled::Crate] {
+    fn a_spoiled_side_is_seen_in_every_row_that_has_it() {
+        for spoiled in [Spoiled::Ours, Spoiled::Number, Spoiled::Refusal, Spoiled::Crate] {
             let run = run_spoiled(spoiled);
-            for row in &crate::table::ROWS {
+            let has_side = |row: &&Row| match spoiled {
+                Spoiled::Refusal => row.beside == Beside::RefusalAndFlags,
+                Spoiled::Crate => row.crates.is_some(),
+                _ => true,
+            };
+            for row in crate::table::rows().filter(has_side) {
                 // libm may have any other value where its fma is known to err.
                 let least = if row.name.starts_with("fma") { 4 } else { 5 };
                 let found = run.drawn(row, 5000).unexplained;
                 assert!((least..=5).contains(&found), "{}: {found}", row.name);
-            }
-        }
-    }
-    #[test]
-    fn fields_and_numbers_are_the_same_request() {
-        for row in &crate::table::ROWS {
-            for (_, request) in requests(row, 1, 2000).take(2000) {
-                assert_eq!(Request::of_fields(&request.fields(operation_of(row))), request);
             }
         }
     }

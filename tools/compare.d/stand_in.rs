@@ -1,5 +1,6 @@
-//! An archive for tests of compare: every function of the face, answered by the plain program, right or with the one
-//! fault of `wrong_flags` that the variable PK_FAULT names. It stands in for ours there, and nowhere else.
+//! An archive for tests of compare: every function of the face, answered by the plain program, right or with the one fault
+//! of `wrong_flags`, of `wrong_attributes` or of the calls themselves that the variable PK_FAULT names. It stands in for ours
+//! there, and nowhere else.
 #![allow(dead_code)]
 
 #[path = "../plain/answers.rs"]
@@ -19,38 +20,68 @@ mod rounding;
 
 mod raised;
 mod request;
+mod wrong_attributes;
 mod wrong_flags;
 
-use attributes::Attribute::Even;
+use attributes::Attribute::{self, Even};
 use format::{Format, WIDTH_32, WIDTH_64};
 use operations::Flags;
 use request::{Answer, Request};
 use std::sync::OnceLock;
-use wrong_flags::{WRONG, WrongFlags};
 
-/// The fault of the calls themselves: flags are added to what the place holds.
-static ADDED: WrongFlags = WrongFlags { name: "flags-added-to", operations: &[], spoil: |_, _, _| () };
+/// Faults of the calls themselves: flags are added to what the place holds, and where an attribute is refused a place is
+/// left as it was.
+const ADDED: &str = "flags-added-to";
+const NO_VALUE: &str = "value-unwritten-where-refused";
+const NO_FLAGS: &str = "flags-unwritten-where-refused";
 
-/// The fault that is asked for, if one is.
-fn fault() -> Option<&'static WrongFlags> {
-    static FAULT: OnceLock<Option<&'static WrongFlags>> = OnceLock::new();
-    *FAULT.get_or_init(|| {
-        let named = std::env::var("PK_FAULT").ok()?;
-        let mut faults = WRONG.iter().chain([&ADDED]);
-        Some(faults.find(|one| one.name == named).expect("PK_FAULT names a fault"))
-    })
+/// Whether this fault is asked for.
+fn is_asked(name: &str) -> bool {
+    static FAULT: OnceLock<Option<String>> = OnceLock::new();
+    let asked = FAULT.get_or_init(|| {
+        let asked = std::env::var("PK_FAULT").ok()?;
+        let (of_flags, under) = (wrong_flags::WRONG.iter(), wrong_attributes::WRONG.iter());
+        let of_calls = [ADDED, NO_VALUE, NO_FLAGS];
+        let mut names = of_flags.map(|one| one.name).chain(under.map(|one| one.name)).chain(of_calls);
+        assert!(names.any(|one| one == asked), "PK_FAULT names no fault");
+        Some(asked)
+    });
+    asked.as_deref() == Some(name)
 }
 
 /// The value of the plain program's answer, whose flags are written out, with the fault where it strikes.
 fn written(name: &str, format: Format, request: Request, right: (u64, Flags), out: *mut u32) -> u64 {
     let mut answer = Answer::flags(right.0, raised::word_of(right.1));
-    if let Some(fault) = fault().filter(|fault| fault.operations.contains(&name)) {
+    let fault = wrong_flags::WRONG.iter().find(|one| is_asked(one.name));
+    if let Some(fault) = fault.filter(|fault| fault.operations.contains(&name)) {
         (fault.spoil)(format, &request, &mut answer);
     }
-    let is_added = fault().is_some_and(|fault| fault.name == ADDED.name);
-    // The caller lends a place for a word.
-    unsafe { *out = if is_added { *out | answer.number as u32 } else { answer.number as u32 } };
+    put_flags(&answer, out);
     answer.word
+}
+fn put_flags(answer: &Answer, out: *mut u32) {
+    let flags = answer.number as u32;
+    // The caller lends a place for a word.
+    unsafe { *out = if is_asked(ADDED) { *out | flags } else { flags } };
+}
+
+/// The plain program's answer under the attribute of a number, with the fault where it strikes.
+fn rounded(name: &str, request: Request) -> Answer {
+    let operation = operations::find(name).expect("an operation of the line format");
+    let plain = Request { attribute: 0, ..request };
+    let mut answer = match Attribute::of_number(request.attribute) {
+        None => Answer { refused: 10, ..Answer::default() },
+        Some(attribute) => {
+            let (word, flags) = answers_flags::under(operation, attribute, &plain.fields(operation));
+            Answer::flags(word, raised::word_of(flags))
+        }
+    };
+    let fault = wrong_attributes::WRONG.iter().find(|one| is_asked(one.name));
+    if let Some(fault) = fault.filter(|fault| fault.operations.contains(&name)) {
+        let case = wrong_attributes::Case { operation, request: &request };
+        (fault.spoil)(&case, &mut answer);
+    }
+    answer
 }
 
 fn whole(format: Format, x: u64, is_floor: bool) -> (u64, Flags) {
@@ -83,6 +114,33 @@ flagged! {
     pk_scalbn32 pk_scalbn32_flags WIDTH_32 u32, (x: u32, n: i32), Request::word_and_number(x.into(), n), answers_flags::scalbn(WIDTH_32, Even, x.into(), n);
     pk_fma64 pk_fma64_flags WIDTH_64 u64, (x: u64, y: u64, z: u64), Request::three_words([x, y, z]), answers_flags::fma(WIDTH_64, Even, [x, y, z]);
     pk_fma32 pk_fma32_flags WIDTH_32 u32, (x: u32, y: u32, z: u32), Request::three_words([x, y, z].map(u64::from)), answers_flags::fma(WIDTH_32, Even, [x, y, z].map(u64::from));
+}
+
+/// The same under an attribute: the number of a refusal, and value and flags written out.
+macro_rules! under_attributes {
+    ($($export:ident $name:literal $word:ty, ($($x:ident: $kind:ty),+), $request:expr;)+) => {$(
+        #[no_mangle]
+        pub extern "C" fn $export(attribute: u32, $($x: $kind),+, value: *mut $word, flags: *mut u32) -> u32 {
+            let answer = rounded($name, Request { attribute, ..$request });
+            let leaves = |fault: &str| answer.refused != 0 && is_asked(fault);
+            if !leaves(NO_VALUE) {
+                // The caller lends a place for a word.
+                unsafe { *value = answer.word as $word };
+            }
+            if !leaves(NO_FLAGS) {
+                put_flags(&answer, flags);
+            }
+            answer.refused
+        }
+    )+};
+}
+under_attributes! {
+    pk_sqrt64_rounded "sqrt64" u64, (x: u64), Request::word(x);
+    pk_sqrt32_rounded "sqrt32" u32, (x: u32), Request::word(x.into());
+    pk_scalbn64_rounded "scalbn64" u64, (x: u64, n: i32), Request::word_and_number(x, n);
+    pk_scalbn32_rounded "scalbn32" u32, (x: u32, n: i32), Request::word_and_number(x.into(), n);
+    pk_fma64_rounded "fma64" u64, (x: u64, y: u64, z: u64), Request::three_words([x, y, z]);
+    pk_fma32_rounded "fma32" u32, (x: u32, y: u32, z: u32), Request::three_words([x, y, z].map(u64::from));
 }
 
 #[no_mangle]

@@ -13,6 +13,7 @@ use crate::reductions::{FOR_REDUCTIONS, by_the_crate};
 use crate::remainders::FOR_REMAINDERS;
 use crate::request::{Answer, Beside, Request};
 use crate::roots::FOR_ROOTS;
+use crate::rounded::under_attributes;
 use oracle::api;
 #[cfg(not(sqrt_plain))]
 use oracle::api as other_root;
@@ -58,25 +59,52 @@ pub const LATER: &str = "the later text of fmaf";
 pub enum Judge {
     /// libm's.
     Crate,
-    /// The plain program's, of values and flags, on every operand. What is named here runs beside, and is judged too.
-    Plain(&'static str),
+    /// The plain program's, of values and flags, on every operand. What runs beside ours is judged too.
+    Plain,
 }
 
+/// What stands beside the value of the side beside ours, where ours has flags. Where it is nothing values alone are compared.
+#[derive(Clone, Copy, Debug, PartialEq, Eq)]
+pub enum Status {
+    Nothing,
+    /// libm's status.
+    Libms,
+    /// Flags of ours, from another call.
+    Flags,
+}
+
+/// The side beside ours: who it is, and how it is called.
+#[derive(Clone, Copy)]
+pub struct Other {
+    pub who: &'static str,
+    pub answer: fn(&Request) -> Answer,
+}
+
+const fn other(who: &'static str, answer: fn(&Request) -> Answer) -> Option<Other> {
+    Some(Other { who, answer })
+}
+
+#[derive(Clone, Copy)]
 pub struct Row {
     pub name: &'static str,
     pub nans: Nans,
     pub judge: Judge,
     pub beside: Beside,
-    /// Whether libm has a status, so that its number means one. Where ours has flags and libm none, values alone are held
-    /// against libm's.
-    pub has_status: bool,
+    pub status: Status,
     /// The kinds of its operands, of which each turn takes the next.
     pub draws: &'static [Draw],
     /// All of the answer, in one call.
     pub ours: fn(&Request) -> Answer,
     /// The call that gives the value alone, where there is one besides.
     pub alone: Option<fn(&Request) -> u64>,
-    pub crates: fn(&Request) -> Answer,
+    /// libm's, or what stands in its place; nothing where it has no such operation.
+    pub crates: Option<Other>,
+}
+
+impl Row {
+    pub fn others(&self, request: &Request) -> Option<Answer> {
+        self.crates.map(|other| (other.answer)(request))
+    }
 }
 
 /// The list call: how ours is called, and the row of the operation that each number stands for.
@@ -118,7 +146,7 @@ extern "C" {
 }
 
 /// What a place holds that a call is to write: no answer, so that one that is not written, or only added to, shows.
-const STALE: u32 = 0xa5a5_a5a5;
+pub const STALE: u32 = 0xa5a5_a5a5;
 
 fn with_flags(call: impl FnOnce(&mut u32) -> u64) -> Answer {
     let mut flags = STALE;
@@ -142,167 +170,167 @@ pub static ROWS: [Row; 15] = [
     Row {
         name: "trunc64",
         nans: Nans::Equal,
-        judge: Judge::Plain(OTHER),
+        judge: Judge::Plain,
         beside: Beside::Flags,
-        has_status: true,
+        status: Status::Libms,
         draws: &FOR_WHOLE,
         ours: |r| with_flags(|flags| unsafe { pk_trunc64_flags(r.x(), flags) }),
         alone: Some(|r| unsafe { pk_trunc64(r.x()) }),
-        crates: |r| Answer::both(api::trunc64(r.x())),
+        crates: other(OTHER, |r| Answer::both(api::trunc64(r.x()))),
     },
     Row {
         name: "trunc32",
         nans: Nans::Equal,
-        judge: Judge::Plain(OTHER),
+        judge: Judge::Plain,
         beside: Beside::Flags,
-        has_status: true,
+        status: Status::Libms,
         draws: &FOR_WHOLE,
         ours: |r| with_flags(|flags| unsafe { pk_trunc32_flags(r.x32(), flags).into() }),
         alone: Some(|r| unsafe { pk_trunc32(r.x32()).into() }),
-        crates: |r| Answer::both32(api::trunc32(r.x32())),
+        crates: other(OTHER, |r| Answer::both32(api::trunc32(r.x32()))),
     },
     Row {
         name: "floor64",
         nans: Nans::Equal,
-        judge: Judge::Plain(OTHER),
+        judge: Judge::Plain,
         beside: Beside::Flags,
-        has_status: true,
+        status: Status::Libms,
         draws: &FOR_WHOLE,
         ours: |r| with_flags(|flags| unsafe { pk_floor64_flags(r.x(), flags) }),
         alone: Some(|r| unsafe { pk_floor64(r.x()) }),
-        crates: |r| Answer::both(api::floor64(r.x())),
+        crates: other(OTHER, |r| Answer::both(api::floor64(r.x()))),
     },
     Row {
         name: "floor32",
         nans: Nans::Equal,
-        judge: Judge::Plain(OTHER),
+        judge: Judge::Plain,
         beside: Beside::Flags,
-        has_status: true,
+        status: Status::Libms,
         draws: &FOR_WHOLE,
         ours: |r| with_flags(|flags| unsafe { pk_floor32_flags(r.x32(), flags).into() }),
         alone: Some(|r| unsafe { pk_floor32(r.x32()).into() }),
-        crates: |r| Answer::both32(api::floor32(r.x32())),
+        crates: other(OTHER, |r| Answer::both32(api::floor32(r.x32()))),
     },
     Row {
         name: "scalbn64",
         nans: Nans::Equal,
-        judge: Judge::Plain(OTHER),
+        judge: Judge::Plain,
         beside: Beside::Flags,
-        has_status: false,
+        status: Status::Nothing,
         draws: &FOR_SCALING,
         ours: |r| with_flags(|flags| unsafe { pk_scalbn64_flags(r.x(), r.n(), flags) }),
         alone: Some(|r| unsafe { pk_scalbn64(r.x(), r.n()) }),
-        crates: |r| Answer::value(api::scalbn64(r.x(), r.n())),
+        crates: other(OTHER, |r| Answer::value(api::scalbn64(r.x(), r.n()))),
     },
     Row {
         name: "scalbn32",
         nans: Nans::Equal,
-        judge: Judge::Plain(OTHER),
+        judge: Judge::Plain,
         beside: Beside::Flags,
-        has_status: false,
+        status: Status::Nothing,
         draws: &FOR_SCALING,
         ours: |r| with_flags(|flags| unsafe { pk_scalbn32_flags(r.x32(), r.n(), flags).into() }),
         alone: Some(|r| unsafe { pk_scalbn32(r.x32(), r.n()).into() }),
-        crates: |r| Answer::value(api::scalbn32(r.x32(), r.n()).into()),
+        crates: other(OTHER, |r| Answer::value(api::scalbn32(r.x32(), r.n()).into())),
     },
     Row {
         name: "fmod64",
         nans: Nans::Equal,
         judge: Judge::Crate,
         beside: Beside::Nothing,
-        has_status: false,
+        status: Status::Nothing,
         draws: &FOR_REMAINDERS,
         ours: |r| unsafe { Answer::value(pk_fmod64(r.x(), r.y())) },
         alone: None,
-        crates: |r| Answer::value(api::fmod64(r.x(), r.y())),
+        crates: other(OTHER, |r| Answer::value(api::fmod64(r.x(), r.y()))),
     },
     Row {
         name: "fmod32",
         nans: Nans::Equal,
         judge: Judge::Crate,
         beside: Beside::Nothing,
-        has_status: false,
+        status: Status::Nothing,
         draws: &FOR_REMAINDERS,
         ours: |r| unsafe { Answer::value(pk_fmod32(r.x32(), r.y32()).into()) },
         alone: None,
-        crates: |r| Answer::value(api::fmod32(r.x32(), r.y32()).into()),
+        crates: other(OTHER, |r| Answer::value(api::fmod32(r.x32(), r.y32()).into())),
     },
     Row {
         name: "remquo64",
         nans: Nans::Equal,
         judge: Judge::Crate,
         beside: Beside::Quotient,
-        has_status: false,
+        status: Status::Nothing,
         draws: &FOR_REMAINDERS,
         ours: |r| with_quotient(|quotient| unsafe { pk_remquo64(r.x(), r.y(), quotient) }),
         alone: None,
-        crates: |r| Answer::quotient(api::remquo64(r.x(), r.y())),
+        crates: other(OTHER, |r| Answer::quotient(api::remquo64(r.x(), r.y()))),
     },
     Row {
         name: "reduce64",
         nans: Nans::Plain,
         judge: Judge::Crate,
         beside: Beside::Refusal,
-        has_status: false,
+        status: Status::Nothing,
         draws: &FOR_REDUCTIONS,
         ours: |r| with_value(|value: &mut u64| unsafe { pk_reduce64(r.x(), r.shift(), r.y(), value) }),
         alone: None,
-        crates: |r| by_the_crate(64, r, || api::reduce64(r.x(), r.shift(), r.y())),
+        crates: other(OTHER, |r| by_the_crate(64, r, || api::reduce64(r.x(), r.shift(), r.y()))),
     },
     Row {
         name: "reduce32",
         nans: Nans::Plain,
         judge: Judge::Crate,
         beside: Beside::Refusal,
-        has_status: false,
+        status: Status::Nothing,
         draws: &FOR_REDUCTIONS,
         ours: |r| with_value(|value: &mut u32| unsafe { pk_reduce32(r.x32(), r.shift(), r.y32(), value) }),
         alone: None,
-        crates: |r| by_the_crate(32, r, || api::reduce32(r.x32(), r.shift(), r.y32()).into()),
+        crates: other(OTHER, |r| by_the_crate(32, r, || api::reduce32(r.x32(), r.shift(), r.y32()).into())),
     },
     Row {
         name: "sqrt64",
         nans: OF_ROOTS,
-        judge: Judge::Plain(OTHER),
+        judge: Judge::Plain,
         beside: Beside::Flags,
-        has_status: true,
+        status: Status::Libms,
         draws: &FOR_ROOTS,
         ours: |r| with_flags(|flags| unsafe { pk_sqrt64_flags(r.x(), flags) }),
         alone: Some(|r| unsafe { pk_sqrt64(r.x()) }),
-        crates: |r| Answer::both(other_root::sqrt64(r.x())),
+        crates: other(OTHER, |r| Answer::both(other_root::sqrt64(r.x()))),
     },
     Row {
         name: "sqrt32",
         nans: OF_ROOTS,
-        judge: Judge::Plain(OTHER),
+        judge: Judge::Plain,
         beside: Beside::Flags,
-        has_status: true,
+        status: Status::Libms,
         draws: &FOR_ROOTS,
         ours: |r| with_flags(|flags| unsafe { pk_sqrt32_flags(r.x32(), flags).into() }),
         alone: Some(|r| unsafe { pk_sqrt32(r.x32()).into() }),
-        crates: |r| Answer::both32(other_root::sqrt32(r.x32())),
+        crates: other(OTHER, |r| Answer::both32(other_root::sqrt32(r.x32()))),
     },
     Row {
         name: "fma64",
         nans: Nans::Equal,
-        judge: Judge::Plain(OTHER),
+        judge: Judge::Plain,
         beside: Beside::Flags,
-        has_status: true,
+        status: Status::Libms,
         draws: &FOR_FUSED,
         ours: |r| with_flags(|flags| unsafe { pk_fma64_flags(r.x(), r.y(), r.z(), flags) }),
         alone: Some(|r| unsafe { pk_fma64(r.x(), r.y(), r.z()) }),
-        crates: |r| Answer::both(api::fma64(r.x(), r.y(), r.z())),
+        crates: other(OTHER, |r| Answer::both(api::fma64(r.x(), r.y(), r.z()))),
     },
     Row {
         name: "fma32",
         nans: Nans::Equal,
-        judge: Judge::Plain(LATER),
+        judge: Judge::Plain,
         beside: Beside::Flags,
-        has_status: true,
+        status: Status::Libms,
         draws: &FOR_FUSED,
         ours: |r| with_flags(|flags| unsafe { pk_fma32_flags(r.x32(), r.y32(), r.z32(), flags).into() }),
         alone: Some(|r| unsafe { pk_fma32(r.x32(), r.y32(), r.z32()).into() }),
-        crates: |r| Answer::both32(api::fma32(r.x32(), r.y32(), r.z32())),
+        crates: other(LATER, |r| Answer::both32(api::fma32(r.x32(), r.y32(), r.z32()))),
     },
 ];
 
@@ -316,6 +344,11 @@ pub static LISTS: Lists = Lists {
     operations: [(1, "sqrt64"), (2, "floor64"), (3, "trunc64")],
 };
 
+/// Every row: those above, and those under an attribute.
+pub fn rows() -> impl Iterator<Item = &'static Row> {
+    ROWS.iter().chain(under_attributes())
+}
+
 pub fn find(name: &str) -> Option<&'static Row> {
-    ROWS.iter().find(|row| row.name == name)
+    rows().find(|row| row.name == name)
 }

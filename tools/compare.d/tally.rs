@@ -2,14 +2,14 @@
 
 use crate::kinds::{Kind, compares_status, known_of};
 use crate::operations::Operation;
-use crate::places::places_of;
+use crate::places::{is_asked, places_of};
 use crate::request::Beside;
 use crate::run::{PRINTED, operation_of};
-use crate::table::Row;
+use crate::table::{Row, Status};
 use std::collections::BTreeMap;
 use std::time::{Duration, Instant};
 
-/// From so many operands on a run must have met every place where flags are decided.
+/// From so many operands on a run must have met every place where flags are decided, or its attribute turns.
 const MEETS_ALL: u64 = 20_000;
 
 /// The names of the kinds of operands: those of the plain program, then the row's own.
@@ -37,7 +37,7 @@ pub struct Tally {
     pub unmet: Vec<&'static str>,
     /// How many operands of each kind there were, or calls, in the order of the kinds.
     pub kinds: Vec<u64>,
-    /// How many there were in each place where flags are decided, in the order of the places.
+    /// How many there were in each place where flags are decided, or an attribute turns, in the order of the places.
     pub places: Vec<u64>,
     /// How often ours gave each number of a refusal, 0 among them; for the operations that have refusals.
     pub refusals: BTreeMap<i64, u64>,
@@ -50,8 +50,10 @@ fn beside_text(row: &Row) -> &'static str {
         Beside::Quotient => "quotient, compared",
         Beside::Refusal => "refusal, compared",
         Beside::Flags if compares_status(row) => "flags, judged; libm's status, compared",
-        Beside::Flags if row.has_status => "flags, judged; libm's status, not compared",
+        Beside::Flags if row.status == Status::Libms => "flags, judged; libm's status, not compared",
         Beside::Flags => "flags, judged; libm has no status",
+        Beside::RefusalAndFlags if row.crates.is_some() => "refusal and flags, judged; without an attribute, compared",
+        Beside::RefusalAndFlags => "refusal and flags, judged",
     }
 }
 
@@ -96,14 +98,22 @@ impl Tally {
     pub fn look_for_unmet(&mut self, count: u64) {
         let known = self.known.iter().zip(&self.explained).take(count as usize);
         self.unmet.extend(known.filter(|(_, met)| **met == 0).map(|(kind, _)| kind.entry));
-        let places = places_of(self.operation).iter().zip(&self.places);
-        let is_asked = count >= MEETS_ALL;
-        self.unmet.extend(places.filter(|(_, met)| is_asked && **met == 0).map(|(place, _)| *place));
+        if count >= MEETS_ALL {
+            let is_unmet = |place: &usize| self.places[*place] == 0 && is_asked(self.operation, *place);
+            let unmet = (0..self.places.len()).filter(is_unmet);
+            self.unmet.extend(unmet.map(|place| places_of(self.operation)[place]));
+        }
     }
     /// Each known difference that was met, and how often.
     pub fn explained_by(&self) -> impl Iterator<Item = (&'static str, u64)> + '_ {
         let pairs = self.known.iter().zip(&self.explained);
         pairs.map(|(kind, count)| (kind.entry, *count)).filter(|(_, count)| *count > 0)
+    }
+    /// Each place that the run had to meet, or has met, and how often.
+    pub fn counted_places(&self) -> impl Iterator<Item = (&'static str, u64)> + '_ {
+        let counts = |place: &usize| self.places[*place] > 0 || is_asked(self.operation, *place);
+        let places = (0..self.places.len()).filter(counts);
+        places.map(|place| (places_of(self.operation)[place], self.places[place]))
     }
     pub fn explained_text(&self) -> String {
         let texts: Vec<String> =

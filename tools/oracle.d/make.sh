@@ -146,8 +146,8 @@ build_program() { # SOURCE RUSTC-WORDS..
     fi
     if [ "$archive" != none ]; then
         folder=$(cd "$(dirname "$archive")" && pwd -P)
-        name=${archive##*/lib}
-        set -- "$@" -L "native=$folder" -l "static=${name%.a}"
+        # By its whole name, so that it may have any.
+        set -- "$@" -L "native=$folder" -l "static:+verbatim=${archive##*/}"
     fi
     if [ -x "$program" ] && [ "$(cat "$program.made" 2>/dev/null)" = "$(inputs "$@")" ]; then return 0; fi
     mkdir -p "$(dirname "$program")" || fail 2 "cannot make a folder for $program"
