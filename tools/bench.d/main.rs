@@ -17,7 +17,7 @@ mod random;
 mod report;
 mod run;
 
-use operations::{LISTS, OPERATIONS};
+use operations::{LISTS, OPERATIONS, ROUNDED};
 use run::Run;
 use std::io::Write;
 use std::time::{Duration, Instant};
@@ -28,7 +28,7 @@ const SILENCE: Duration = Duration::from_secs(3);
 fn main() {
     let mut run = asked(std::env::args().skip(1)).unwrap_or_else(|error| fail(&error));
     let mut said = Instant::now();
-    let all: Vec<_> = OPERATIONS.iter().chain(LISTS).collect();
+    let all: Vec<_> = OPERATIONS.iter().chain(LISTS).chain(ROUNDED).collect();
     for (done, operation) in all.iter().enumerate() {
         if said.elapsed() > SILENCE {
             eprintln!("bench: {}, operation {} of {}", operation.name, done + 1, all.len());
@@ -61,6 +61,7 @@ fn asked(mut words: impl Iterator<Item = String>) -> Result<Run, String> {
         operation: "",
         requests: String::new(),
         rows: Vec::new(),
+        rounded: Vec::new(),
         differences: Vec::new(),
     };
     while let Some(word) = words.next() {

@@ -136,6 +136,49 @@ lists! {
     list64_trunc      (x: u64)  3       { generic::trunc_status(f64::from_bits(x)).val.to_bits() } [patterns, fractions];
 }
 
+/// Our calls under an attribute, of which libm has none: beside them stand our own calls without one, for the value alone and
+/// for value and flags. Under each attribute the call is the same but for the number.
+macro_rules! rounded {
+    ($($name:ident $operands:tt [$export:ident: $value:ty] { $plain:ident, $flags:ident } [$($set:ident),+];)+) => {
+        pub const ROUNDED: &[Operation] = &[$(Operation {
+            name: stringify!($name),
+            measure: |run| {
+                declared!($plain, $operands, $value);
+                declared!($flags, $operands, $value, Flags);
+                declared_rounded!($export, $operands, $value);
+                let plain = |names!($operands): types!($operands), stir: u64| unsafe { call!($plain, $operands, stir) };
+                let flags = |names!($operands): types!($operands), stir: u64| unsafe { call!($flags, $operands, stir, Flags) };
+                let under = |attribute: u32, names!($operands): types!($operands), stir: u64| unsafe { call_rounded!($export, attribute, $operands, stir, $value) };
+                let request = |names!($operands): types!($operands)| request!($operands);
+                $(run.measure_rounded(stringify!($set), operands::$set, request, plain, flags, under);)+
+            },
+        }),+];
+    };
+}
+macro_rules! declared_rounded {
+    ($export:ident, ($($x:ident: $type:ty),+), $value:ty) => {
+        extern "C" { fn $export(attribute: u32, $($x: $type,)+ value: *mut $value, flags: *mut Flags) -> u32; }
+    };
+}
+macro_rules! call_rounded {
+    ($function:expr, $attribute:expr, ($($x:ident: $type:ty),+), $stir:expr, $value:ty) => {{
+        let (mut value, mut flags) = (<$value>::default(), Flags::default());
+        let refusal = $function($attribute, $($x ^ $stir as $type,)+ &mut value, &mut flags);
+        ((refusal, value), flags)
+    }};
+}
+
+// tools/bench reads these rows too.
+rounded! {
+//  name             operands                 ours: the export and its value ours without an attribute           sets
+    sqrt64_rounded   (x: u64)                 [pk_sqrt64_rounded: u64]       { pk_sqrt64, pk_sqrt64_flags }      [patterns, positive, squares, small];
+    sqrt32_rounded   (x: u32)                 [pk_sqrt32_rounded: u32]       { pk_sqrt32, pk_sqrt32_flags }      [patterns, positive, squares, small];
+    fma64_rounded    (x: u64, y: u64, z: u64) [pk_fma64_rounded: u64]        { pk_fma64, pk_fma64_flags }        [patterns, level, spread, cancelling, tiny];
+    fma32_rounded    (x: u32, y: u32, z: u32) [pk_fma32_rounded: u32]        { pk_fma32, pk_fma32_flags }        [patterns, level, spread, cancelling, tiny];
+    scalbn64_rounded (x: u64, n: i32)         [pk_scalbn64_rounded: u64]     { pk_scalbn64, pk_scalbn64_flags }  [normal, wide, subnormal];
+    scalbn32_rounded (x: u32, n: i32)         [pk_scalbn32_rounded: u32]     { pk_scalbn32, pk_scalbn32_flags }  [normal, wide, subnormal];
+}
+
 /// Our list call, which refuses nothing here: a set is as long as a list may be.
 fn list(number: u32, input: &[u64], output: &mut [u64]) {
     extern "C" {
