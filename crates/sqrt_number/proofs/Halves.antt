@@ -1,5 +1,5 @@
 -- An unpacked number: the sizes of its parts, and the answer by the root of its radicand, however that was found. Assumes nothing.
-use Prim.Native.Nat.{ℕ, _+_, _-_, _*_, _/_, _%_, _^_, _≤_, _<_}
+use Prim.Native.Nat.{ℕ, _+_, _-_, _*_, _%_, _^_, _≤_, _<_}
 use mathlib.Core.Path.{_≡_, refl, subst, sym, ap, _∙_}
 use mathlib.Core.Bool.{Bool, false}
 use native.Mathlib.Omega.{arith}
@@ -48,7 +48,7 @@ module _ {p e : ℕ} (w : Fits p e) (x : ℕ) (a : Above (format p e) x) (sig up
   pub ready : p + 2 ≤ 2 ^ (e - 1) → Ready (format p e) sig up
   ready l = record { leads = led; from = up-least (format p e) (w .fair) x (a .some) up (h .up-is) l; to = up-most (format p e) (w .fair) x (a .some) up (h .up-is) }
 
-  pub normal-root : p + 2 ≤ 2 ^ (e - 1) → (t : ℕ) → FloorRoot (pairs word (p + 2)) t → NormalRoot (format p e) t up
+  normal-root : p + 2 ≤ 2 ^ (e - 1) → (t : ℕ) → FloorRoot (pairs word (p + 2)) t → NormalRoot (format p e) t up
   normal-root l t r =
       record {
         least = root-long (format p e) (w .fair) x (a .some) up (h .up-is) t (subst (λ n. FloorRoot n t) square-is r);
