@@ -202,6 +202,26 @@ mod tests {
         assert_eq!(unmet(MEETS_ALL), ["fma64-lost-bits", "x a signalling NaN"]);
     }
     #[test]
+    fn under_an_attribute_what_it_makes_is_asked_for_and_nothing_else() {
+        let unmet = |name: &str| {
+            let mut tally = Tally::of_row(find(name).unwrap(), String::new(), String::new());
+            tally.look_for_unmet(MEETS_ALL - 1);
+            assert!(tally.is_clean());
+            tally.look_for_unmet(MEETS_ALL);
+            tally.unmet
+        };
+        let (up, numbers) = (unmet("fma64.up"), unmet("fma64.NUMBER"));
+        let asks = |place: &str| up.contains(&place);
+        assert!(asks("the largest number by overflow, below zero") && !asks("the largest number by overflow"));
+        assert!(asks("+0 of terms of unlike signs") && !asks("-0 of terms of unlike signs"));
+        assert!(asks("half of the least subnormal number, below zero") && !asks("zero, exactly"));
+        assert_eq!(numbers.len(), 11);
+        let mut tally = Tally::of_row(find("sqrt32.down").unwrap(), String::new(), String::new());
+        tally.places.iter_mut().skip(1).for_each(|count| *count = 1);
+        tally.look_for_unmet(MEETS_ALL);
+        assert_eq!(tally.unmet, ["a signalling NaN"]);
+    }
+    #[test]
     fn a_known_difference_is_asked_for_where_its_first_operands_were_run() {
         let row = find("fma64").unwrap();
         let mut tally = Tally::of_row(row, String::new(), String::new());
