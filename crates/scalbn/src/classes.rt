@@ -1,8 +1,7 @@
 // A number times 2^n by its class: where the exponent field goes, and where the value lies if it is no normal number.
 ghost use mathlib.Core.Path.{_≡_};
 ghost use mathlib.Core.Bool.{true, false};
-ghost use Prim.Native.Nat.{_-_, _^_};
-ghost use Rattle.ieee.specs.Pattern.{field, fraction};
+ghost use Rattle.ieee.specs.Pattern.{fraction};
 ghost use Rattle.ieee.specs.Scalbn.{reach, clamp};
 ghost use Rattle.fmt_exponents.specs.Field.{above};
 ghost use Rattle.fmt_fields.specs.Width.{format, Fits};
@@ -44,6 +43,7 @@ pub fn locate_moved(frac: u32, expo: u32, x: u64, n: i32) -> Located
         location: 3,
         high: true,
         beyond: true,
+        inside: false,
     }
 }
 

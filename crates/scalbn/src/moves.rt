@@ -17,8 +17,8 @@ use word_bits::pow;
 
 // An infinity unchanged; for a NaN the canonical one.
 pub fn scale_special(frac: u32, expo: u32, x: u64) -> u64
-    requires { ⌜ Fits frac expo ⌝ }
-    ensures { λ r. ⌜ r ≡ cond (eqb (fraction (format frac expo) x) 0) x (canonical (format frac expo)) ⌝ }
+    requires { ⌜ Fits frac expo × Pattern (format frac expo) x ⌝ }
+    ensures { λ r. ⌜ (r ≡ cond (eqb (fraction (format frac expo) x) 0) x (canonical (format frac expo))) × Pattern (format frac expo) r ⌝ }
 {
     if fraction_field(frac, expo, x) == 0 {
         return x;
@@ -29,7 +29,7 @@ pub fn scale_special(frac: u32, expo: u32, x: u64) -> u64
 // x with another exponent field. From one normal number to another the fraction is unchanged.
 pub fn with_field(frac: u32, expo: u32, x: u64, to: u64) -> u64
     requires { ⌜ Fits frac expo × Pattern (format frac expo) x × (to < 2 ^ expo) ⌝ }
-    ensures { λ r. ⌜ r ≡ x - field (format frac expo) x * 2 ^ frac + to * 2 ^ frac ⌝ }
+    ensures { λ r. ⌜ (r ≡ x - field (format frac expo) x * 2 ^ frac + to * 2 ^ frac) × Pattern (format frac expo) r ⌝ }
 {
     let unit = pow(frac);
     x - exponent_field(frac, expo, x) * unit + to * unit
@@ -39,7 +39,7 @@ pub fn with_field(frac: u32, expo: u32, x: u64, to: u64) -> u64
 pub fn locate_below_unit(frac: u32, expo: u32, x: u64, k: u32) -> Located
     requires { ⌜ Fits frac expo × (1 ≤ k) × (k ≤ 64) ⌝ }
     ensures { λ r. ⌜ (r .below ≡ fullOf (format frac expo) x / 2 ^ k) × (r .location ≡ part (fullOf (format frac expo) x % 2 ^ k) (2 ^ k))
-        × (r .high ≡ highPart (fullOf (format frac expo) x % 2 ^ k) (2 ^ k)) × (r .beyond ≡ false) ⌝ }
+        × (r .high ≡ highPart (fullOf (format frac expo) x % 2 ^ k) (2 ^ k)) × (r .beyond ≡ false) × (r .inside ≡ false) ⌝ }
 {
     let c = shift_out(pow(frac) + fraction_field(frac, expo, x), k);
     Located {
@@ -47,5 +47,6 @@ pub fn locate_below_unit(frac: u32, expo: u32, x: u64, k: u32) -> Located
         location: c.location,
         high: c.high,
         beyond: false,
+        inside: false,
     }
 }

@@ -33,8 +33,8 @@ pub fn scalbn64(x: u64, n: i32) -> u64
         return finish(52, 11, Attribute::Even, is_negative(52, 11, x), l).bits;
     }
     if exponent_field(52, 11, x) == 0 {
-        let l = locate_subnormal(52, 11, x, n);
-        return finish(52, 11, Attribute::Even, is_negative(52, 11, x), l).bits;
+        let low = locate_subnormal(52, 11, x, n);
+        return finish(52, 11, Attribute::Even, is_negative(52, 11, x), low).bits;
     }
     scale_special(52, 11, x)
 }
@@ -59,8 +59,8 @@ pub fn scalbn64_flags(x: u64, n: i32) -> Raised64
         };
     }
     if exponent_field(52, 11, x) == 0 {
-        let l = locate_subnormal(52, 11, x, n);
-        let r = finish(52, 11, Attribute::Even, is_negative(52, 11, x), l);
+        let low = locate_subnormal(52, 11, x, n);
+        let r = finish(52, 11, Attribute::Even, is_negative(52, 11, x), low);
         let flags = r.flags;
         return Raised64 {
             value: r.bits,
@@ -86,8 +86,8 @@ pub fn scalbn32(x: u32, n: i32) -> u32
         return finish(23, 8, Attribute::Even, is_negative(23, 8, v), l).bits as u32;
     }
     if exponent_field(23, 8, v) == 0 {
-        let l = locate_subnormal(23, 8, v, n);
-        return finish(23, 8, Attribute::Even, is_negative(23, 8, v), l).bits as u32;
+        let low = locate_subnormal(23, 8, v, n);
+        return finish(23, 8, Attribute::Even, is_negative(23, 8, v), low).bits as u32;
     }
     scale_special(23, 8, v) as u32
 }
@@ -113,8 +113,8 @@ pub fn scalbn32_flags(x: u32, n: i32) -> Raised32
         };
     }
     if exponent_field(23, 8, v) == 0 {
-        let l = locate_subnormal(23, 8, v, n);
-        let r = finish(23, 8, Attribute::Even, is_negative(23, 8, v), l);
+        let low = locate_subnormal(23, 8, v, n);
+        let r = finish(23, 8, Attribute::Even, is_negative(23, 8, v), low);
         let flags = r.flags;
         return Raised32 {
             value: r.bits as u32,

@@ -15,8 +15,10 @@ use Rattle.fmt_fields.proofs.Normals.{not-normal-field}
 use Rattle.fmt_fields.proofs.Numbers.{infinity-some}
 use Rattle.fmt_exponents.specs.Field.{above, depthOf}
 use Rattle.fmt_exponents.proofs.Exponents.{depth-least, depth-most, above-is}
+use Rattle.round_laws.specs.Location.{insideAt}
+use Rattle.round_laws.proofs.Insides.{largest-outside}
 use Rattle.scalbn_laws.specs.Normal.{movedTo}
-use Rattle.scalbn_laws.proofs.Scales.{below-lies, over-lies}
+use Rattle.scalbn_laws.proofs.Scales.{below-lies, below-outside, over-lies}
 use Rattle.scalbn.proofs.classes.locate_moved.Statement.{statement}
 use Rattle.scalbn.proofs.classes.locate_moved.Tie as tie
 
@@ -37,36 +39,24 @@ field-is c = (simp (toZ-ofZ, to-back (c .before)) at (c .field-or-zero .ensures)
 depth-is : (c : tie.After-bits-below-unit) → let s = c .before .before .before .before .before in c .bits-below-unit .result ≡ depthOf (movedTo (fmt s) (s .args .x) (s .args .n))
 depth-is c = let r = c .before .before .before in (simp (toZ-ofZ, to-back r) at (c .bits-below-unit .ensures)) ∙ ap depthOf (to-is r)
 
-exponent-field-requires : tie.Need-exponent-field-requires
-exponent-field-requires c κs = search needs
+deep : (c : tie.After-bits-below-unit) → (1 ≤ c .bits-below-unit .result) × (c .bits-below-unit .result ≤ 64)
+deep c =
+    let s = c .before .before .before .before .before in
+    let z = movedTo (fmt s) (s .args .x) (s .args .n) in
+    (omega (arith, depth-is c, depth-least z), omega (arith, depth-is c, depth-most z))
 
 move-field-requires : tie.Need-move-field-requires
 move-field-requires c κs = omega (arith, c .exponent-field .ensures, field-in-word (c .before .pre .0) (c .before .args .x))
-
-field-or-zero-requires : tie.Need-field-or-zero-requires
-field-or-zero-requires c κs = search needs
-
-bits-below-unit-requires : tie.Need-bits-below-unit-requires
-bits-below-unit-requires c κs = search needs
-
-locate-below-unit-requires : tie.Need-locate-below-unit-requires
-locate-below-unit-requires c κs =
-    let s = c .before .before .before .before .before in
-    let z = movedTo (fmt s) (s .args .x) (s .args .n) in
-    (s .pre .0, omega (arith, depth-is c, depth-least z), omega (arith, depth-is c, depth-most z))
 
 returns : tie.Need-returns
 returns c =
     let d = c .before in
     let u = d .before .before in
     let s = u .before .before .before in
-    let (a, b, h, y) =
-    below-lies (fmt s) (s .pre .0 .fair) (s .args .x) (s .args .n) (s .pre .1) (d .bits-below-unit .result) (sym (field-is u) ∙ d .before .if1 .taken) (depth-is d) (significand-room (s .pre .0) (s .args .x)) in
-    let (i, j, k, l) = c .locate-below-unit .ensures in
-    (i ∙ sym a, j ∙ sym b, k ∙ sym h, l ∙ sym y)
-
-infinity-requires : tie.Need-infinity-requires
-infinity-requires c κs = search needs
+    let k = d .bits-below-unit .result in
+    let (a, b, h, y) = below-lies (fmt s) (s .pre .0 .fair) (s .args .x) (s .args .n) (s .pre .1) k (sym (field-is u) ∙ d .before .if1 .taken) (depth-is d) (significand-room (s .pre .0) (s .args .x)) in
+    let (i, j, l, m, o) = c .locate-below-unit .ensures in
+    ((i ∙ sym a, j ∙ sym b, l ∙ sym h, m ∙ sym y), o ∙ below-outside (fmt s) (s .args .x) k (deep d .0) i)
 
 -- the field is the last or past it
 returns-2 : tie.Need-returns-2
@@ -79,7 +69,19 @@ returns-2 c =
     let some = o .if1 .left in
     let up : z ≡ pos (above z) = above-is z (omega (arith, field-is u, some)) in
     let (a, b, h, y) = over-lies (fmt s) (s .pre .0 .fair) (s .args .x) (s .args .n) (s .pre .1) (above z) up far in
-    (ap (λ n. n - 1) (c .infinity .ensures) ∙ sym a, sym b, sym h, sym y)
+    let last = ap (λ n. n - 1) (c .infinity .ensures) in
+    ((last ∙ sym a, sym b, sym h, sym y), largest-outside (fmt s) ∙ ap (insideAt (fmt s)) (sym last))
 
 pub locate-moved-spec : {M : Type 1} → statement M
-locate-moved-spec = tie.close (tie.spec exponent-field-requires move-field-requires field-or-zero-requires bits-below-unit-requires locate-below-unit-requires returns infinity-requires (λ c. omega (arith, c .infinity .ensures, infinity-some (c .before .before .before .before .before .pre .0))) returns-2)
+locate-moved-spec =
+    tie.close
+    (tie.spec
+    (λ c κs. search needs)
+    move-field-requires
+    (λ c κs. search needs)
+    (λ c κs. search needs)
+    (λ c κs. (c .before .before .before .before .before .pre .0, deep c .0, deep c .1))
+    returns
+    (λ c κs. search needs)
+    (λ c. omega (arith, c .infinity .ensures, infinity-some (c .before .before .before .before .before .pre .0)))
+    returns-2)

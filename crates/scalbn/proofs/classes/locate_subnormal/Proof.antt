@@ -1,5 +1,5 @@
 -- A clamped exponent is within reach of the location (scalbn_laws: Scales). Assumes nothing.
-use Prim.Native.Nat.{_+_, _^_}
+use Prim.Native.Nat.{_+_, _^_, _<_}
 use mathlib.Core.Path.{_≡_, ap, _∙_, subst}
 use native.Mathlib.Omega.{arith}
 use borrow.Author.Needs.{needs}
@@ -28,20 +28,8 @@ near-is c =
 near-back : (c : tie.After-clamp-exponent) → SFits w32 (c .clamp-exponent .result)
 near-back c = record { sfits = c .clamp-exponent .ok }
 
-pow-requires : tie.Need-pow-requires
-pow-requires c κs = search needs
-
-cast-clamp-exponent : tie.Need-cast-clamp-exponent
-cast-clamp-exponent c = record { fits = omega (arith, c .pow .ensures, reach-in-word (c .before .pre)) }
-
-add-clamp-exponent : tie.Need-add-clamp-exponent
-add-clamp-exponent c = record { fits = omega (arith, c .pow .ensures, reach-in-word (c .before .pre)) }
-
-clamp-exponent-requires : tie.Need-clamp-exponent-requires
-clamp-exponent-requires c κs = omega (arith, c .pow .ensures, reach-in-word (c .before .pre))
-
-fraction-field-requires : tie.Need-fraction-field-requires
-fraction-field-requires c κs = search needs
+reach-room : (c : tie.After-pow) → c .pow .result + c .before .args .frac < 2 ^ 17
+reach-room c = omega (arith, c .pow .ensures, reach-in-word (c .before .pre))
 
 locate-requires : tie.Need-locate-requires
 locate-requires c κs =
@@ -59,4 +47,13 @@ returns c =
     (subst (λ u. Locates (fmt s) (stretched u (w .clamp-exponent .result)) (c .locate .result)) (q .fraction-field .ensures) (simp (toZ-ofZ, near-back w) at (c .locate .ensures)))
 
 pub locate-subnormal-spec : {M : Type 1} → statement M
-locate-subnormal-spec = tie.close (tie.spec pow-requires cast-clamp-exponent add-clamp-exponent clamp-exponent-requires fraction-field-requires locate-requires returns)
+locate-subnormal-spec =
+    tie.close
+    (tie.spec
+    (λ c κs. search needs)
+    (λ c. record { fits = omega (arith, reach-room c) })
+    (λ c. record { fits = omega (arith, reach-room c) })
+    (λ c κs. omega (arith, reach-room c))
+    (λ c κs. search needs)
+    locate-requires
+    returns)

@@ -25,17 +25,11 @@ to-is c =
 to-back : (c : tie.After-move-field) → SFits w64 (c .move-field .result)
 to-back c = record { sfits = c .move-field .ok }
 
-exponent-field-requires : tie.Need-exponent-field-requires
-exponent-field-requires c κs = search needs
-
 move-field-requires : tie.Need-move-field-requires
 move-field-requires c κs = omega (arith, c .exponent-field .ensures, field-in-word (c .before .pre) (c .before .args .x))
-
-field-or-zero-requires : tie.Need-field-or-zero-requires
-field-or-zero-requires c κs = search needs
 
 returns : tie.Need-returns
 returns c = (simp (toZ-ofZ, to-back (c .before)) at (c .field-or-zero .ensures)) ∙ ap above (to-is (c .before))
 
 pub moved-field-spec : {M : Type 1} → statement M
-moved-field-spec = tie.close (tie.spec exponent-field-requires move-field-requires field-or-zero-requires returns)
+moved-field-spec = tie.close (tie.spec (λ c κs. search needs) move-field-requires (λ c κs. search needs) returns)

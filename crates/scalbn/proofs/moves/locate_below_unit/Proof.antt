@@ -17,28 +17,15 @@ fmt s = format (s .args .frac) (s .args .expo)
 full-is : (c : tie.After-fraction-field) → let s = c .before .before in c .before .pow .result + c .fraction-field .result ≡ fullOf (fmt s) (s .args .x)
 full-is c = ap₂ _+_ (c .before .pow .ensures) (c .fraction-field .ensures)
 
-location-is : (c : tie.After-shift-out) → let s = c .before .before .before in let S = fullOf (fmt s) (s .args .x) in
-    (c .shift-out .result .kept ≡ S / 2 ^ s .args .k) × (c .shift-out .result .location ≡ part (S % 2 ^ s .args .k) (2 ^ s .args .k)) × (c .shift-out .result .high ≡ highPart (S % 2 ^ s .args .k) (2 ^ s .args .k))
-location-is c =
-    let d = 2 ^ c .before .before .before .args .k in
-    let (i, j, k) = c .shift-out .ensures in
-    let e = full-is (c .before) in
-    (i ∙ ap (λ u. u / d) e, j ∙ ap (λ u. part (u % d) d) e, k ∙ ap (λ u. highPart (u % d) d) e)
-
-pow-requires : tie.Need-pow-requires
-pow-requires c κs = search needs
-
-fraction-field-requires : tie.Need-fraction-field-requires
-fraction-field-requires c κs = search needs
-
 add-shift-out : tie.Need-add-shift-out
 add-shift-out c = let s = c .before .before in record { fits = omega (arith, full-is c, significand-room (s .pre .0) (s .args .x)) }
 
-shift-out-requires : tie.Need-shift-out-requires
-shift-out-requires c κs = search needs
-
 returns : tie.Need-returns
-returns c = let (i, j, k) = location-is c in (i, j, k, refl)
+returns c =
+    let d = 2 ^ c .before .before .before .args .k in
+    let (i, j, k) = c .shift-out .ensures in
+    let e = full-is (c .before) in
+    (i ∙ ap (λ u. u / d) e, j ∙ ap (λ u. part (u % d) d) e, k ∙ ap (λ u. highPart (u % d) d) e, refl, refl)
 
 pub locate-below-unit-spec : {M : Type 1} → statement M
-locate-below-unit-spec = tie.close (tie.spec pow-requires fraction-field-requires add-shift-out shift-out-requires returns)
+locate-below-unit-spec = tie.close (tie.spec (λ c κs. search needs) (λ c κs. search needs) add-shift-out (λ c κs. search needs) returns)
