@@ -49,7 +49,8 @@ fn locate_normalised(frac: u32, expo: u32, sig: u64, at: u32) -> Located
     ensures { λ r. ⌜ Locates (format frac expo) (filledAt sig at) r ⌝ }
 {
     let extra = 63 - frac;
-    let up = std::num::wrapping_sub_u32(at + extra, LIFT) as u64;
+    let least = LIFT - extra;
+    let up = std::num::wrapping_sub_u32(at, least) as u64;
     let last = pow(expo) - 3;
     if up < last {
         return shift_out_under(frac, sig, up, extra, true);
@@ -57,7 +58,7 @@ fn locate_normalised(frac: u32, expo: u32, sig: u64, at: u32) -> Located
     if up == last {
         return shift_out_under(frac, sig, up, extra, false);
     }
-    if at + extra >= LIFT {
+    if at >= least {
         return Located {
             below: infinity(frac, expo) - 1,
             location: 3,

@@ -28,8 +28,8 @@ module _ {p e s at t up k : ℕ} (w : Fits p e) (i : Stands p e s at t up k) whe
 sub-extra : tie.Need-sub-extra
 sub-extra c = search needs
 
-add-wrapping-sub-u32 : tie.Need-add-wrapping-sub-u32
-add-wrapping-sub-u32 c = search needs
+sub-least : tie.Need-sub-least
+sub-least c = search needs
 
 wrapping-sub-u32-requires : tie.Need-wrapping-sub-u32-requires
 wrapping-sub-u32-requires c κs = search needs
@@ -81,9 +81,6 @@ returns-2 c =
     lies (s .pre .0) (normal k (omega arith))
     (last-field-outside (s .pre .0) (s .args .sig) (s .args .at) (s .pre .1) (omega arith) (k .before .wrapping-sub-u32 .result) (omega (arith, c .before .if2 .taken, k .pow .ensures, four-fields (s .pre .0))))
     (c .shift-out-under2 .ensures)
-
-add-if3 : tie.Need-add-if3
-add-if3 c = search needs
 
 infinity-requires : tie.Need-infinity-requires
 infinity-requires c κs = search needs
@@ -138,7 +135,7 @@ locate-normalised-spec =
     tie.close
     (tie.spec
     sub-extra
-    add-wrapping-sub-u32
+    sub-least
     wrapping-sub-u32-requires
     cast-up
     pow-requires
@@ -147,7 +144,6 @@ locate-normalised-spec =
     returns
     shift-out-under-requires-2
     returns-2
-    add-if3
     infinity-requires
     sub-t13
     returns-3
