@@ -8,6 +8,7 @@ use crate::operands;
 use crate::run::Run;
 use oracle::math::support::{linear_mul_reduction, FpResult, Round, Status};
 use oracle::math::{fma, fmaf, generic, remquo};
+use std::mem::MaybeUninit;
 
 pub struct Operation {
     pub name: &'static str,
@@ -26,13 +27,14 @@ macro_rules! declared {
         extern "C" { fn $export($($x: $type,)+ $(second: *mut $second)?) -> $answer; }
     };
 }
-// The exports are functions of numbers alone, with no condition on them, and write the one place that is lent to them.
+// The exports are functions of numbers alone, with no condition on them, and write every place that is lent to them, so that
+// none needs a value before.
 macro_rules! call {
     ($function:expr, ($($x:ident: $type:ty),+), $stir:expr) => { $function($($x ^ $stir as $type),+) };
     ($function:expr, ($($x:ident: $type:ty),+), $stir:expr, $second:ty) => {{
-        let mut second = <$second>::default();
-        let answer = $function($($x ^ $stir as $type,)+ &mut second);
-        (answer, second)
+        let mut second = MaybeUninit::<$second>::uninit();
+        let answer = $function($($x ^ $stir as $type,)+ second.as_mut_ptr());
+        (answer, second.assume_init())
     }};
 }
 macro_rules! request {
@@ -162,9 +164,9 @@ macro_rules! declared_rounded {
 }
 macro_rules! call_rounded {
     ($function:expr, $attribute:expr, ($($x:ident: $type:ty),+), $stir:expr, $value:ty) => {{
-        let (mut value, mut flags) = (<$value>::default(), Flags::default());
-        let refusal = $function($attribute, $($x ^ $stir as $type,)+ &mut value, &mut flags);
-        ((refusal, value), flags)
+        let (mut value, mut flags) = (MaybeUninit::<$value>::uninit(), MaybeUninit::<Flags>::uninit());
+        let refusal = $function($attribute, $($x ^ $stir as $type,)+ value.as_mut_ptr(), flags.as_mut_ptr());
+        ((refusal, value.assume_init()), flags.assume_init())
     }};
 }
 
