@@ -18,12 +18,11 @@ use fma_sum::sum_wide::fold_sum;
 use fma_sum::sum_wide::product_of_wide;
 use fma_sum::third::third_of;
 use fmt_fields::env::Attribute;
-use fmt_fields::env::Raised32;
 use fmt_fields::env::Raised64;
 use fmt_fields::env::no_flags;
 use fmt_fields::numbered::Answer32;
 use fmt_fields::numbered::Answer64;
-use fmt_fields::numbered::accept32;
+use fmt_fields::numbered::accept_narrow;
 use fmt_fields::numbered::accept64;
 use fmt_fields::numbered::attribute_of;
 use fmt_fields::numbered::is_attribute;
@@ -31,7 +30,6 @@ use fmt_fields::numbered::refuse32;
 use fmt_fields::numbered::refuse64;
 use round_step::round::finish;
 use round_step::round::finish_inside;
-use round_step::round::raise32;
 use round_step::round::raise64;
 
 // The parts of `fma64_flags` in a row, with the attribute handed on.
@@ -60,30 +58,30 @@ pub fn fma64_in(attribute: Attribute, x: u64, y: u64, z: u64) -> Raised64
     raise64(finish(52, 11, attribute, s.neg, l))
 }
 
-pub fn fma32_in(attribute: Attribute, x: u32, y: u32, z: u32) -> Raised32
+pub fn fma32_in(attribute: Attribute, x: u32, y: u32, z: u32) -> Raised64
     ensures { λ r. ⌜ (r .value ≡ fmaIn b32 (attributeOf attribute) x y z) × (flagsOf (r .flags) ≡ fmaFlagsIn b32 (attributeOf attribute) x y z) ⌝ }
 {
     let a = x as u64;
     let b = y as u64;
     let c = z as u64;
     if is_special(23, 8, a, b, c) {
-        return Raised32 {
-            value: fma_special(23, 8, attribute, a, b, c) as u32,
+        return Raised64 {
+            value: fma_special(23, 8, attribute, a, b, c),
             flags: special_flags(23, 8, a, b, c),
         };
     }
     let s = add_third(product_of(23, 8, a, b), third_of(23, 8, c));
     if s.steps == 0 {
-        return Raised32 {
-            value: zero_sum(23, 8, attribute) as u32,
+        return Raised64 {
+            value: zero_sum(23, 8, attribute),
             flags: no_flags(),
         };
     }
     let l = locate_sum(23, 8, s);
     if l.inside {
-        return raise32(finish_inside(23, 8, attribute, s.neg, l));
+        return raise64(finish_inside(23, 8, attribute, s.neg, l));
     }
-    raise32(finish(23, 8, attribute, s.neg, l))
+    raise64(finish(23, 8, attribute, s.neg, l))
 }
 
 // By the number of the attribute.
@@ -100,7 +98,7 @@ pub fn fma32_rounded(number: u32, x: u32, y: u32, z: u32) -> Answer32
     ensures { λ r. ⌜ answer32 r ≡ fmaRounded b32 number x y z ⌝ }
 {
     if is_attribute(number) {
-        return accept32(fma32_in(attribute_of(number), x, y, z));
+        return accept_narrow(fma32_in(attribute_of(number), x, y, z));
     }
     refuse32()
 }

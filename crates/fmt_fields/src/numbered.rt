@@ -1,6 +1,6 @@
 // A call under an attribute by its number: the value with its flags, or a refusal.
 ghost use mathlib.Core.Path.{_≡_};
-ghost use Prim.Native.Nat.{_<_};
+ghost use Prim.Native.Nat.{_<_, _^_};
 ghost use lib.Dec.{ltb};
 ghost use Rattle.ieee.specs.Rounded.{answered, noAttribute};
 ghost use Rattle.fmt_fields.specs.Raised.{attributeOf, flagsOf};
@@ -66,6 +66,19 @@ pub fn accept32(r: Raised32) -> Answer32
     Answer32 {
         refusal: 0,
         value: r.value,
+        flags,
+    }
+}
+
+// At 32 bits, from a pattern in a word: a struct of eight bytes the compiler packs into a register, and unpacks again.
+pub fn accept_narrow(r: Raised64) -> Answer32
+    requires { ⌜ r .value < 2 ^ 32 ⌝ }
+    ensures { λ a. ⌜ answer32 a ≡ answered (r .value) (flagsOf (r .flags)) ⌝ }
+{
+    let flags = r.flags;
+    Answer32 {
+        refusal: 0,
+        value: r.value as u32,
         flags,
     }
 }

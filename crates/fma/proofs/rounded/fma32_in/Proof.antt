@@ -1,5 +1,5 @@
 -- Operands with a row have it, and numbers are added and rounded once (Parts). Assumes nothing.
-use mathlib.Core.Path.{_≡_, sym, ap, _∙_}
+use mathlib.Core.Path.{_≡_, sym, _∙_}
 use mathlib.Core.Bool.{false}
 use native.Mathlib.Omega.{arith}
 use borrow.Author.Needs.{needs}
@@ -10,7 +10,7 @@ use Rattle.fmt_fields.proofs.Widths.{fits32}
 use Rattle.fma_laws.specs.Fused.{roundedSum, fmaGives}
 use Rattle.round_step.specs.Outcome.{told}
 use Rattle.fma.specs.Special.{special}
-use Rattle.fma.proofs.Parts.{factors, third, by-parts, by-none, by-location, is-pattern, finishes, finishes-inside, both}
+use Rattle.fma.proofs.Parts.{factors, third, by-parts, by-none, by-location, finishes, finishes-inside, both}
 use Rattle.fma.proofs.rounded.fma32_in.Statement.{statement}
 use Rattle.fma.proofs.rounded.fma32_in.Tie as tie
 
@@ -69,10 +69,10 @@ returns-2 : tie.Need-returns-2
 returns-2 c = let d = c .before in let i = s (d .before .before .before) in both b32 (attributeOf (i .args .attribute)) (i .args .x) (i .args .y) (i .args .z) ((λ k. (d .zero-sum .result, c .no-flags .ensures k)) ∙ none d)
 
 returns-3 : tie.Need-returns-3
-returns-3 c = let d = c .before in let i = s (d .before .before .before .before .before) in both b32 (attributeOf (i .args .attribute)) (i .args .x) (i .args .y) (i .args .z) ((λ k. (c .raise32 .ensures .0 k, c .raise32 .ensures .1 k)) ∙ inside d)
+returns-3 c = let d = c .before in let i = s (d .before .before .before .before .before) in both b32 (attributeOf (i .args .attribute)) (i .args .x) (i .args .y) (i .args .z) ((λ k. (c .raise64 .ensures .0 k, c .raise64 .ensures .1 k)) ∙ inside d)
 
 returns-4 : tie.Need-returns-4
-returns-4 c = let d = c .before in let i = s (d .before .before .before .before .before) in both b32 (attributeOf (i .args .attribute)) (i .args .x) (i .args .y) (i .args .z) ((λ k. (c .raise322 .ensures .0 k, c .raise322 .ensures .1 k)) ∙ at-end d)
+returns-4 c = let d = c .before in let i = s (d .before .before .before .before .before) in both b32 (attributeOf (i .args .attribute)) (i .args .x) (i .args .y) (i .args .z) ((λ k. (c .raise642 .ensures .0 k, c .raise642 .ensures .1 k)) ∙ at-end d)
 
 pub fma32-in-spec : {M : Type 1} → statement M
 fma32-in-spec =
@@ -80,20 +80,18 @@ fma32-in-spec =
     (tie.spec
     (λ c κs. fits32)
     (λ c κs. (fits32, omega arith, sym (c .before .is-special .ensures) ∙ c .if1 .taken))
-    (λ c. let i = c .before .before .before in record { fits = is-pattern fits32 (i .args .x) (i .args .y) (i .args .z) (attributeOf (i .args .attribute)) (c .fma-special .ensures) })
     (λ c κs. (fits32, omega arith, sym (c .before .before .is-special .ensures) ∙ c .before .if1 .taken))
     returns
     (λ c κs. let a = c .before .before .args in let (w, i, j) = factors fits32 (a .x) (a .y) (a .z) (numbers c) in (w, omega arith, i, j))
     (λ c κs. let a = c .before .before .before .args in third fits32 (a .x) (a .y) (a .z) (numbers (c .before)))
     (λ c κs. search needs)
     (λ c κs. fits32)
-    (λ c. let i = s (c .before .before .before) in record { fits = is-pattern fits32 (i .args .x) (i .args .y) (i .args .z) (attributeOf (i .args .attribute)) (ap (λ g. g .0) (none c)) })
     (λ c κs. search needs)
     returns-2
     (λ c κs. search needs)
     finish-inside-requires
-    (λ c κs. let i = s (c .before .before .before .before .before) in is-pattern fits32 (i .args .x) (i .args .y) (i .args .z) (attributeOf (i .args .attribute)) (ap (λ g. g .0) (inside c)))
+    (λ c κs. search needs)
     returns-3
     finish-requires
-    (λ c κs. let i = s (c .before .before .before .before .before) in is-pattern fits32 (i .args .x) (i .args .y) (i .args .z) (attributeOf (i .args .attribute)) (ap (λ g. g .0) (at-end c)))
+    (λ c κs. search needs)
     returns-4)
