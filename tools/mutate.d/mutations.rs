@@ -214,6 +214,8 @@ impl Maker<'_> {
             let prefix = &node.word[..node.word.len() - last(&node.word).len()];
             others.extend(like.map(|(n, _)| format!("{prefix}{n}")));
         }
+        // a field that is named for its variable would be written out, and nothing changed
+        others.remove(&node.word);
         for other in others {
             self.replace("another of the same type", id, &other);
         }
