@@ -124,6 +124,10 @@ impl Maker<'_> {
 
     fn replace(&mut self, kind: &'static str, id: usize, new: &str) {
         let node = &self.tree.nodes[id];
+        // A field that is named for its variable would be written out, and nothing changed.
+        if !node.before.is_empty() && new == node.word {
+            return;
+        }
         self.found
             .push((kind, node.start, node.end, format!("{}{new}", node.before)));
     }
@@ -214,8 +218,6 @@ impl Maker<'_> {
             let prefix = &node.word[..node.word.len() - last(&node.word).len()];
             others.extend(like.map(|(n, _)| format!("{prefix}{n}")));
         }
-        // a field that is named for its variable would be written out, and nothing changed
-        others.remove(&node.word);
         for other in others {
             self.replace("another of the same type", id, &other);
         }
