@@ -166,7 +166,8 @@ macro_rules! call_rounded {
     ($function:expr, $attribute:expr, ($($x:ident: $type:ty),+), $stir:expr, $value:ty) => {{
         let (mut value, mut flags) = (MaybeUninit::<$value>::uninit(), MaybeUninit::<Flags>::uninit());
         let refusal = $function($attribute, $($x ^ $stir as $type,)+ value.as_mut_ptr(), flags.as_mut_ptr());
-        ((refusal, value.assume_init()), flags.assume_init())
+        let (value, flags) = (value.assume_init(), flags.assume_init());
+        ((refusal, value), flags)
     }};
 }
 
