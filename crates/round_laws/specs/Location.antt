@@ -35,7 +35,7 @@ unfoldable pub beyond : Format → Exact → Bool
 unfolding below
 beyond f x = beyondAbove f (below f x) x
 
--- m is normal, and below the numbers of the last exponent field: from there up nothing but inexact can be raised
+-- m is normal, and below the numbers of the last exponent field: a value from m up to the next number can raise nothing but inexact
 abbrev pub insideAt : Format → ℕ → Bool
 insideAt f m = leb (2 ^ f .frac) m && ltb m (inf f - 2 ^ f .frac)
 
