@@ -26,6 +26,7 @@ pub mod Local
 pub mod Locations
 pub mod NearestWhole
 pub mod Nearness
+pub mod PartCases
 pub mod Past
 pub mod Patterns
 pub mod Raised

@@ -1,10 +1,10 @@
--- Whole numbers: trunc and floor; IEEE 754-2019, clause 5.9; ISO C, F.10.6. Assumes nothing.
+-- Whole numbers: trunc, floor and ceil; IEEE 754-2019, clause 5.9; ISO C, F.10.6. Assumes nothing.
 use Prim.Native.Nat.{ℕ, _+_, _*_, _/_, _%_, _^_}
 use mathlib.Core.Bool.{not, _&&_, _||_, cond}
 use lib.Dec.{leb, ltb, eqb}
 use Rattle.ieee.specs.Format.{Format, low, canonical}
 use Rattle.ieee.specs.Pattern.{Kind, nan, infinite, finite, kind, minus, signed}
-use Rattle.ieee.specs.Round.{Way, even, away, shorter, longer, Attribute, toward-zero, toward-negative, wayOf, rounded, exactly}
+use Rattle.ieee.specs.Round.{Way, even, away, shorter, longer, Attribute, toward-zero, toward-positive, toward-negative, wayOf, rounded, exactly}
 use Rattle.ieee.specs.Flags.{Flags, none, onlyInexact, nanFlags, signals}
 
 -- n / d as a whole number, the way w
@@ -33,6 +33,10 @@ unfoldable pub floorOf : Format → ℕ → ℕ
 unfolding wholeIn
 floorOf f x = wholeIn f toward-negative x
 
+unfoldable pub ceilOf : Format → ℕ → ℕ
+unfolding wholeIn
+ceilOf f x = wholeIn f toward-positive x
+
 -- ---- the flags: invalid for a signalling NaN, and inexact exactly where a finite operand x is changed, to r
 unfoldable pub wholeFlagsBy : Format → ℕ → ℕ → Kind → Flags
 wholeFlagsBy f x r nan = nanFlags (signals f x)
@@ -50,3 +54,7 @@ truncFlags f x = wholeFlagsIn f toward-zero x
 unfoldable pub floorFlags : Format → ℕ → Flags
 unfolding wholeFlagsIn
 floorFlags f x = wholeFlagsIn f toward-negative x
+
+unfoldable pub ceilFlags : Format → ℕ → Flags
+unfolding wholeFlagsIn
+ceilFlags f x = wholeFlagsIn f toward-positive x
