@@ -13,7 +13,7 @@ use Rattle.ieee.specs.Format.{Format, top, inf, units}
 use Rattle.ieee.specs.Pattern.{Pattern, minus, magnitude, signed, withSign, value}
 use Rattle.ieee.specs.Exact.{Value, dyadic, surd, signOf, absolute, Over, Under}
 use Rattle.ieee.specs.Rule.{Toward, Outward, Before, Bound, Directed}
-use Rattle.ieee.proofs.Units.{units-mono, units-lt}
+use Rattle.ieee.proofs.Units.{units-mono, units-le-inv}
 use Rattle.ieee.proofs.Patterns.{inf-below-top, magnitude-signed, pattern-signed, value-with, value-signed}
 use Rattle.ieee.proofs.Signs.{by-sign, signed-zero, signed-abs, signed-times}
 
@@ -91,9 +91,6 @@ bound-unlike s (surd (suc n)) (suc w) h = absurd h
 not-opposite : (t : Bool) → t ≡ not t → ⊥
 not-opposite true e = let z : _≡_ {A = ℕ} 0 1 = cc in omega arith
 not-opposite false e = let z : _≡_ {A = ℕ} 0 1 = cc in omega arith
-
-units-le-inv : (f : Format) (i j : ℕ) → units f i ≤ units f j → i ≤ j
-units-le-inv f i j h = by-contra i j (λ l. omega (arith, units-lt f l))
 
 module _ (f : Format) (s : Bool) (v : Value) where
   -- the value's sign

@@ -16,14 +16,14 @@ use Rattle.ieee.specs.Scalbn.{scalbnIn, scalbnFlagsIn, exactScalbn}
 use Rattle.ieee.specs.SqrtRows.{SqrtRows}
 use Rattle.ieee.specs.FmaRows.{FmaRows}
 use Rattle.ieee.specs.ScalbnRows.{ScalbnRows}
-use Rattle.ieee.specs.Whole.{truncOf, truncFlags, floorOf, floorFlags}
-use Rattle.ieee.specs.WholeRule.{Truncated, Floored, WholeRows, FloorRows}
+use Rattle.ieee.specs.Whole.{truncOf, truncFlags, floorOf, floorFlags, ceilOf, ceilFlags}
+use Rattle.ieee.specs.WholeRule.{Truncated, Floored, Ceiled, WholeRows, FloorRows, CeilRows}
 use Rattle.ieee.proofs.Raised.{same-when, rule-one}
 use Rattle.ieee.proofs.SqrtFlags.{sqrt-flags-rule, sqrt-flag-rows}
 use Rattle.ieee.proofs.FmaFlags.{Apart, infinite-apart, finite-apart, fma-flags-rule, fma-flag-rows}
 use Rattle.ieee.proofs.ScalbnFlags.{scalbn-flags-rule, scalbn-flag-rows}
-use Rattle.ieee.proofs.WholeFlags.{trunc-flag-rows, floor-flag-rows}
-use Rattle.ieee.proofs.Settled.{same, sqrt-settled, fma-settled, scalbn-settled, trunc-settled, floor-settled}
+use Rattle.ieee.proofs.WholeFlags.{trunc-flag-rows, floor-flag-rows, ceil-flag-rows}
+use Rattle.ieee.proofs.Settled.{same, sqrt-settled, fma-settled, scalbn-settled, trunc-settled, floor-settled, ceil-settled}
 
 -- ---- sqrt
 module _ (f : Format) (g : Fair f) (a : Attribute) (F : ℕ → Flags) (rows : SqrtFlagRows f F)
@@ -96,7 +96,7 @@ module _ (f : Format) (g : Fair f) (a : Attribute) (x : ℕ) (n : ℤ) (F : Flag
   scalbn-flags-settled : F ≡ scalbnFlagsIn f a x n
   scalbn-flags-settled = scalbn-flags-by (signals f x) (kind f x) refl refl
 
--- ---- trunc and floor: two that go with one operation
+-- ---- trunc, floor and ceil: two that go with one operation
 module _ (f : Format) (o : ℕ → ℕ) (F G : ℕ → Flags) (p : WholeFlagRows f o F) (q : WholeFlagRows f o G) where
   flags-by : (x : ℕ) (k : Kind) → kind f x ≡ k → F x ≡ G x
   flags-by x nan h = go (signals f x) refl
@@ -145,3 +145,8 @@ module _ (f : Format) (g : Fair f) (o : ℕ → ℕ) (F : ℕ → Flags) (flags 
   trunc-raises-settled rows rule x =
       let e = trunc-settled f g o rows rule in
       (e x, whole-flags-settled f (truncOf f) F (truncFlags f) (subst (λ q. WholeFlagRows f q F) (λ i y. e y i) flags) (trunc-flag-rows f g) x)
+
+  pub ceil-raises-settled : CeilRows f o → ((x u : ℕ) → kind f x ≡ finite u → Ceiled f x (o x)) → (x : ℕ) → (o x ≡ ceilOf f x) × (F x ≡ ceilFlags f x)
+  ceil-raises-settled rows rule x =
+      let e = ceil-settled f g o rows rule in
+      (e x, whole-flags-settled f (ceilOf f) F (ceilFlags f) (subst (λ q. WholeFlagRows f q F) (λ i y. e y i) flags) (ceil-flag-rows f g) x)

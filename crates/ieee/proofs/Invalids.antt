@@ -117,7 +117,7 @@ module _ (f : Format) (g : Fair f) (a : Attribute) (x : ℕ) (n : ℤ) where
   pub scalbn-invalid : (scalbnFlagsIn f a x n .invalid ≡ true) ↔ (signals f x ≡ true)
   scalbn-invalid = (scaled-cause (signals f x) (kind f x) refl refl, λ s. raises (scalbn-flag-rows f a x n .of-signalling (signalling-nan f g x s) s))
 
--- ---- trunc and floor
+-- ---- trunc, floor and ceil
 module _ (f : Format) (g : Fair f) (o : ℕ → ℕ) (F : ℕ → Flags) (rows : WholeFlagRows f o F) (x : ℕ) where
   whole-cause : (b : Bool) (k : Kind) → signals f x ≡ b → kind f x ≡ k → F x .invalid ≡ true → signals f x ≡ true
   whole-cause true k s h i = s

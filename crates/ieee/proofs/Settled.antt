@@ -1,5 +1,5 @@
 -- The whole answer: whatever meets the rows of an operation, and for numbers its rule, is what the definition gives, for every operand. Assumes nothing.
-use Prim.Native.Nat.{ℕ, zero, suc, _<_}
+use Prim.Native.Nat.{ℕ, zero, suc, _≤_, _<_}
 use mathlib.Core.Path.{_≡_, refl, sym, _∙_}
 use mathlib.Core.Bool.{Bool, true, false, true≢false}
 use native.Mathlib.Omega.{arith}
@@ -14,20 +14,31 @@ use Rattle.ieee.specs.Fma.{fmaIn, exactFma, zeroSign, InfiniteProduct, o
 use Rattle.ieee.specs.FmaRows.{FmaRows}
 use Rattle.ieee.specs.Scalbn.{scalbnIn, exactScalbn}
 use Rattle.ieee.specs.ScalbnRows.{ScalbnRows}
-use Rattle.ieee.specs.Whole.{truncOf, floorOf}
-use Rattle.ieee.specs.WholeRule.{Truncated, Floored, WholeRows, FloorRows}
+use Rattle.ieee.specs.Whole.{truncOf, floorOf, ceilOf}
+use Rattle.ieee.specs.WholeRule.{Truncated, Floored, Ceiled, WholeRows, FloorRows, CeilRows}
 use Rattle.ieee.specs.Fmod.{fmodOf}
 use Rattle.ieee.specs.FmodRule.{Left, FmodRows}
+use Rattle.ieee.specs.Nextafter.{nextafterOf}
+use Rattle.ieee.specs.NextafterRule.{Ordered, Next, NextafterRows}
+use Rattle.ieee.specs.Modf.{modfOf, modfWhole}
+use Rattle.ieee.specs.ModfRule.{Parted, ModfRows}
 use Rattle.ieee.specs.Remquo.{remquoOf, quotientOf}
 use Rattle.ieee.specs.RemquoRule.{NearestLeft, RemquoRows}
+use Rattle.ieee.specs.Frexp.{ilogbOf, frexpOf, frexpExponent}
+use Rattle.ieee.specs.FrexpRule.{Leads, IlogbRows, Broken, FrexpRows}
 use Rattle.ieee.proofs.Patterns.{finite-is}
 use Rattle.ieee.proofs.Attributes.{answer-met-unique}
 use Rattle.ieee.proofs.Sqrts.{sqrt-met, sqrt-rows}
 use Rattle.ieee.proofs.Fmas.{fma-met, fma-rows}
 use Rattle.ieee.proofs.Scalbns.{scalbn-met, scalbn-rows}
 use Rattle.ieee.proofs.Wholes.{trunc-is, trunc-only, trunc-rows, floor-is, floor-only, floor-rows}
+use Rattle.ieee.proofs.Ceils.{ceil-is, ceil-only, ceil-rows}
 use Rattle.ieee.proofs.Remainders.{fmod-is, fmod-only, fmod-rows}
+use Rattle.ieee.proofs.Modfs.{modf-is, modf-only, modf-rows}
 use Rattle.ieee.proofs.Remquos.{remquo-is, remquo-only, remquo-rows}
+use Rattle.ieee.proofs.Nexts.{by-nan, next-is, next-only, next-rows}
+use Rattle.ieee.proofs.Leads.{ilogb-is, ilogb-only, ilogb-rows}
+use Rattle.ieee.proofs.Frexps.{frexp-is, frexp-only, frexp-rows}
 
 -- what both are is one
 pub same : {A : Type 0} {r q d : A} → r ≡ d → q ≡ d → r ≡ q
@@ -96,7 +107,7 @@ module _ (f : Format) (g : Fair f) (a : Attribute) (x : ℕ) (n : ℤ) (r : ℕ)
   pub scalbn-settled : r ≡ scalbnIn f a x n
   scalbn-settled = scalbn-by (kind f x) refl
 
--- ---- trunc and floor
+-- ---- trunc, floor and ceil
 module _ (f : Format) (g : Fair f) (o : ℕ → ℕ) where
   trunc-by : WholeRows f o → ((x u : ℕ) → kind f x ≡ finite u → Truncated f x (o x)) → (x : ℕ) (k : Kind) → kind f x ≡ k → o x ≡ truncOf f x
   trunc-by rows rule x nan h = same (rows .of-nan x h) (trunc-rows f .of-nan x h)
@@ -114,6 +125,14 @@ module _ (f : Format) (g : Fair f) (o : ℕ → ℕ) where
   pub floor-settled : FloorRows f o → ((x u : ℕ) → kind f x ≡ finite u → Floored f x (o x)) → (x : ℕ) → o x ≡ floorOf f x
   floor-settled rows rule x = floor-by rows rule x (kind f x) refl
 
+  ceil-by : CeilRows f o → ((x u : ℕ) → kind f x ≡ finite u → Ceiled f x (o x)) → (x : ℕ) (k : Kind) → kind f x ≡ k → o x ≡ ceilOf f x
+  ceil-by rows rule x nan h = same (rows .rows .of-nan x h) (ceil-rows f g .rows .of-nan x h)
+  ceil-by rows rule x infinite h = same (rows .rows .of-infinity x h) (ceil-rows f g .rows .of-infinity x h)
+  ceil-by rows rule x (finite u) h = ceil-only f x (o x) (ceilOf f x) (rule x u h) (ceil-is f g x u h)
+
+  pub ceil-settled : CeilRows f o → ((x u : ℕ) → kind f x ≡ finite u → Ceiled f x (o x)) → (x : ℕ) → o x ≡ ceilOf f x
+  ceil-settled rows rule x = ceil-by rows rule x (kind f x) refl
+
 -- ---- fmod
 module _ (f : Format) (o : ℕ → ℕ → ℕ) (rows : FmodRows f o) (rule : (x y u v : ℕ) → kind f x ≡ finite u → kind f y ≡ finite (suc v) → Left f x y (o x y)) where
   fmod-by : (x y : ℕ) (k l : Kind) → kind f x ≡ k → kind f y ≡ l → o x y ≡ fmodOf f x y
@@ -126,6 +145,16 @@ module _ (f : Format) (o : ℕ → ℕ → ℕ) (rows : FmodRows f o) (rule : (x
 
   pub fmod-settled : (x y : ℕ) → o x y ≡ fmodOf f x y
   fmod-settled x y = fmod-by x y (kind f x) (kind f y) refl refl
+
+-- ---- modf and its whole part
+module _ (f : Format) (g : Fair f) (o w : ℕ → ℕ) (rows : ModfRows f o w) (rule : (x u : ℕ) → kind f x ≡ finite u → Parted f x (o x) (w x)) where
+  modf-by : (x : ℕ) (k : Kind) → kind f x ≡ k → (o x ≡ modfOf f x) × (w x ≡ modfWhole f x)
+  modf-by x nan h = both (rows .of-nan x h) (modf-rows f .of-nan x h)
+  modf-by x infinite h = both (rows .of-infinity x h) (modf-rows f .of-infinity x h)
+  modf-by x (finite u) h = modf-only f x (o x) (modfOf f x) (w x) (modfWhole f x) (rule x u h) (modf-is f g x u h)
+
+  pub modf-settled : (x : ℕ) → (o x ≡ modfOf f x) × (w x ≡ modfWhole f x)
+  modf-settled x = modf-by x (kind f x) refl
 
 -- ---- remquo and its quotient
 module _ (f : Format) (o : ℕ → ℕ → ℕ) (n : ℕ → ℕ → ℤ) (rows : RemquoRows f o n)
@@ -142,3 +171,36 @@ module _ (f : Format) (o : ℕ → ℕ → ℕ) (n : ℕ → ℕ → ℤ) (rows 
 
   pub remquo-settled : (x y : ℕ) → (o x y ≡ remquoOf f x y) × (n x y ≡ quotientOf f x y)
   remquo-settled x y = remquo-by x y (kind f x) (kind f y) refl refl
+
+-- ---- nextafter
+module _ (f : Format) (o : ℕ → ℕ → ℕ) (rows : NextafterRows f o) (rule : (x y : ℕ) → Ordered f x → Ordered f y → Next f x y (o x y)) where
+  pub next-settled : (x y : ℕ) → Pattern f x → Pattern f y → o x y ≡ nextafterOf f x y
+  next-settled x y p q =
+      by-nan f x p
+      (λ e. same (rows .nan-x x y e) (next-rows f .nan-x x y e))
+      (λ i. by-nan f y q
+      (λ e. same (rows .nan-y x y e) (next-rows f .nan-y x y e))
+      (λ j. next-only f x y (o x y) (nextafterOf f x y) i j (rule x y i j) (next-is f x y i j)))
+
+-- ---- ilogb
+module _ (f : Format) (g : Fair f) (o : ℕ → ℤ) (rows : IlogbRows f o) (rule : (x u : ℕ) → kind f x ≡ finite (suc u) → Leads f x (o x)) where
+  ilogb-by : (x : ℕ) (k : Kind) → kind f x ≡ k → o x ≡ ilogbOf f x
+  ilogb-by x nan h = same (rows .of-nan x h) (ilogb-rows f .of-nan x h)
+  ilogb-by x infinite h = same (rows .of-infinity x h) (ilogb-rows f .of-infinity x h)
+  ilogb-by x (finite zero) h = same (rows .of-zero x h) (ilogb-rows f .of-zero x h)
+  ilogb-by x (finite (suc u)) h = ilogb-only f x (o x) (ilogbOf f x) (rule x u h) (ilogb-is f g x u h)
+
+  pub ilogb-settled : (x : ℕ) → o x ≡ ilogbOf f x
+  ilogb-settled x = ilogb-by x (kind f x) refl
+
+-- ---- frexp and its exponent
+module _ (f : Format) (g : Fair f) (three : 3 ≤ f .expo) (o : ℕ → ℕ) (e : ℕ → ℤ) (rows : FrexpRows f o e)
+    (rule : (x u : ℕ) → Pattern f x → kind f x ≡ finite (suc u) → Broken f x (o x) (e x)) where
+  frexp-by : (x : ℕ) → Pattern f x → (k : Kind) → kind f x ≡ k → (o x ≡ frexpOf f x) × (e x ≡ frexpExponent f x)
+  frexp-by x p nan h = both (rows .of-nan x h) (frexp-rows f .of-nan x h)
+  frexp-by x p infinite h = both (rows .of-infinity x h) (frexp-rows f .of-infinity x h)
+  frexp-by x p (finite zero) h = both (rows .of-zero x h) (frexp-rows f .of-zero x h)
+  frexp-by x p (finite (suc u)) h = frexp-only f x (o x) (frexpOf f x) (e x) (frexpExponent f x) (rule x u p h) (frexp-is f g three x u p h)
+
+  pub frexp-settled : (x : ℕ) → Pattern f x → (o x ≡ frexpOf f x) × (e x ≡ frexpExponent f x)
+  frexp-settled x p = frexp-by x p (kind f x) refl

@@ -76,6 +76,9 @@ units-lt f {i} {j} h = omega (arith, units-rise f i, units-mono f h)
 pub units-lt-inv : (f : Format) (i j : ℕ) → units f i < units f j → i < j
 units-lt-inv f i j h = by-contra (suc i) j (λ l. omega (arith, units-mono f {i = j} {j = i} (omega arith)))
 
+pub units-le-inv : (f : Format) (i j : ℕ) → units f i ≤ units f j → i ≤ j
+units-le-inv f i j h = by-contra i j (λ l. omega (arith, units-lt f l))
+
 pub units-is : (f : Format) (m : ℕ) → units f m ≡ fields (2 ^ f .frac) (m / 2 ^ f .frac) (m % 2 ^ f .frac)
 unfolding units
 units-is f m = refl

@@ -1,15 +1,15 @@
--- The flags of trunc and floor, under every attribute: inexact exactly where a finite operand is changed. Assumes nothing.
+-- The flags of trunc, floor and ceil, under every attribute: inexact exactly where a finite operand is changed. Assumes nothing.
 use Prim.Native.Nat.{ℕ}
 use mathlib.Core.Path.{_≡_, refl, sym, ap, _∙_}
 use mathlib.Core.Bool.{not}
 use lib.Dec.{eqb}
 use Rattle.ieee.specs.Format.{Format, Fair}
 use Rattle.ieee.specs.Pattern.{Pattern, value, Kind, nan, infinite, finite, kind}
-use Rattle.ieee.specs.Round.{Attribute, toward-zero, toward-negative}
+use Rattle.ieee.specs.Round.{Attribute, toward-zero, toward-positive, toward-negative}
 use Rattle.ieee.specs.Flags.{none, onlyInexact, nanFlags, signals}
 use Rattle.ieee.specs.FlagsRule.{Clean}
 use Rattle.ieee.specs.FlagRows.{WholeFlagRows}
-use Rattle.ieee.specs.Whole.{wholeIn, wholeFlagsBy, wholeFlagsIn, truncOf, floorOf, truncFlags, floorFlags}
+use Rattle.ieee.specs.Whole.{wholeIn, wholeFlagsBy, wholeFlagsIn, truncOf, floorOf, ceilOf, truncFlags, floorFlags, ceilFlags}
 use Rattle.ieee.proofs.Decide.{Reads, holds, is-true, alike, eqb-reads, not-reads}
 use Rattle.ieee.proofs.Patterns.{same-pattern}
 use Rattle.ieee.proofs.Signs.{value-tells}
@@ -62,7 +62,11 @@ pub floor-flag-rows : (f : Format) → Fair f → WholeFlagRows f (floorOf f) (f
 unfolding floorOf floorFlags
 floor-flag-rows f g = whole-flag-rows f toward-negative g
 
--- trunc and floor raise the same flags, as would every other attribute
+pub ceil-flag-rows : (f : Format) → Fair f → WholeFlagRows f (ceilOf f) (ceilFlags f)
+unfolding ceilOf ceilFlags
+ceil-flag-rows f g = whole-flag-rows f toward-positive g
+
+-- trunc, floor and ceil raise the same flags, as would every other attribute
 pub whole-flags-alike : (f : Format) → Fair f → (a b : Attribute) (x : ℕ) → Pattern f x → wholeFlagsIn f a x ≡ wholeFlagsIn f b x
 unfolding wholeFlagsIn wholeFlagsBy
 whole-flags-alike f g a b x p = go (kind f x)

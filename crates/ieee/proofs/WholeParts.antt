@@ -66,7 +66,7 @@ module _ (f : Format) where
   small-or-whole m = rw (units-is f m) (fields-small-or-whole (m / 2 ^ f .frac) (m % 2 ^ f .frac) (mod-lt m (pow-pos (f .frac))))
 
   -- 2 ^ frac is below infinity
-  ones-below-infinity : Fair f → 2 ^ f .frac * 2 ^ low f < units f (inf f)
+  pub ones-below-infinity : Fair f → 2 ^ f .frac * 2 ^ low f < units f (inf f)
   ones-below-infinity g =
       let d = pow-diff {a = f .expo} {b = 1} (omega (arith, g .expo-two)) in
       let t = pow-mono {i = 1} {j = f .expo - 1} (omega (arith, g .expo-two)) in

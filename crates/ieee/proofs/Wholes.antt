@@ -100,7 +100,7 @@ floor-below d z k l a b =
     let h = mul-lt-cancel (up k + dn m) (up m + dn k) d (omega (arith, leZ-fact (k *ℤ pos d) z (a .le), ltZ-fact z (m *ℤ pos d) (b .lt), timesZ k d, timesZ m d)) in
     omega (arith, addZ l (pos 1))
 
-value-only : (f : Format) (r q : ℕ) → Pattern f r → Pattern f q → minus f r ≡ minus f q → value f r ≡ value f q → r ≡ q
+pub value-only : (f : Format) (r q : ℕ) → Pattern f r → Pattern f q → minus f r ≡ minus f q → value f r ≡ value f q → r ≡ q
 value-only f r q a b s e = same-pattern f r q a b s (value-tells f r q e .0)
 
 pub floor-only : (f : Format) (x r q : ℕ) → Floored f x r → Floored f x q → r ≡ q
@@ -110,7 +110,7 @@ floor-only f x r q a b =
     let k = eqZ (a .k) (b .k) (omega arith) in
     value-only f r q (a .pattern) (b .pattern) (a .sign ∙ sym (b .sign)) (a .counts ∙ ap (λ n. n *ℤ pos (2 ^ low f)) k ∙ sym (b .counts))
 
-wholeIn-rows : (f : Format) (a : Attribute) → WholeRows f (wholeIn f a)
+pub wholeIn-rows : (f : Format) (a : Attribute) → WholeRows f (wholeIn f a)
 wholeIn-rows f a = record { of-nan = nan-canonical f a; of-infinity = infinity-stays f a; of-zero = zero-stays f a }
 
 pub trunc-rows : (f : Format) → WholeRows f (truncOf f)
