@@ -10,7 +10,7 @@ use word_bits::pow;
 
 // sig times 2^up smallest units. The significand is shifted left until its leading bit is the implicit one, and what remains of up is added to the exponent
 // field.
-fn pack_units(frac: u32, expo: u32, sig: u64, up: u32) -> u64
+pub fn pack_units(frac: u32, expo: u32, sig: u64, up: u32) -> u64
     requires { ⌜ Fits frac expo × (sig < 2 ^ (frac + 1)) × (sig * 2 ^ up < units (format frac expo) (inf (format frac expo))) ⌝ }
     ensures { λ r. ⌜ r ≡ exactly (format frac expo) (sig * 2 ^ up) ⌝ }
 {

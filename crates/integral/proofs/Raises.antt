@@ -1,4 +1,4 @@
--- The flags of a pattern x that was sent to r, by its magnitude; and those of trunc and floor. Assumes nothing.
+-- The flags of a pattern x that was sent to r, by its magnitude; and those of trunc, floor and ceil. Assumes nothing.
 use Prim.Native.Nat.{ℕ, _≤_, _<_}
 use mathlib.Core.Path.{_≡_, sym, ap, _∙_}
 use mathlib.Core.Bool.{not}
@@ -8,7 +8,7 @@ use Rattle.algebra.proofs.Products.{order}
 use Rattle.ieee.specs.Format.{Format, inf}
 use Rattle.ieee.specs.Pattern.{magnitude, kind}
 use Rattle.ieee.specs.Flags.{nanFlags, onlyInexact, signals}
-use Rattle.ieee.specs.Whole.{wholeIn, wholeFlagsBy, wholeFlagsIn, truncOf, truncFlags, floorOf, floorFlags}
+use Rattle.ieee.specs.Whole.{wholeIn, wholeFlagsBy, wholeFlagsIn, truncOf, truncFlags, floorOf, floorFlags, ceilOf, ceilFlags}
 use Rattle.ieee.proofs.Patterns.{kind-finite, kind-infinite, kind-nan}
 use Rattle.ieee.proofs.Signals.{infinite-silent}
 
@@ -31,3 +31,7 @@ module _ (f : Format) (x r : ℕ) where
   pub floor-raises : r ≡ floorOf f x → wholeFlagsBy f x r (kind f x) ≡ floorFlags f x
   unfolding floorOf floorFlags wholeFlagsIn
   floor-raises e = ap (λ y. wholeFlagsBy f x y (kind f x)) e
+
+  pub ceil-raises : r ≡ ceilOf f x → wholeFlagsBy f x r (kind f x) ≡ ceilFlags f x
+  unfolding ceilOf ceilFlags wholeFlagsIn
+  ceil-raises e = ap (λ y. wholeFlagsBy f x y (kind f x)) e

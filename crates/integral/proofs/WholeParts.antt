@@ -22,7 +22,7 @@ use Rattle.integral.proofs.Choices.{past-infinity, not-past}
 use Rattle.integral.proofs.Scaled.{cut-after, cut-between, shorter-scaled}
 
 module _ (f : Format) (g : Fair f) where
-  two-le : 2 ≤ 2 ^ (f .expo - 1)
+  pub two-le : 2 ≤ 2 ^ (f .expo - 1)
   two-le = pow-mono {i = 1} {j = f .expo - 1} (omega (arith, g .expo-two))
 
   -- the answer is the magnitude with those units
@@ -34,7 +34,7 @@ module _ (f : Format) (g : Fair f) where
       ∙ ap (signed f (minus f x)) (fixed-whole f even n (omega arith))
 
   -- ---- a number without bits behind the point is unchanged, under every attribute; a NaN becomes canonical
-  fields-multiple : (q t : ℕ) → bias f + f .frac ≤ q → (k : ℕ) × (fields (2 ^ f .frac) q t ≡ k * 2 ^ low f)
+  pub fields-multiple : (q t : ℕ) → bias f + f .frac ≤ q → (k : ℕ) × (fields (2 ^ f .frac) q t ≡ k * 2 ^ low f)
   fields-multiple zero t h = absurd (omega (arith, two-le))
   fields-multiple (suc e) t h =
       ((2 ^ f .frac + t) * 2 ^ (e - low f), omega (arith, times (2 ^ f .frac + t) (pow-diff {a = e} {b = low f} (omega arith))))

@@ -1,2 +1,2 @@
-pub mod Floors
+pub mod Directed
 pub mod Point

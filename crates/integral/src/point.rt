@@ -1,4 +1,4 @@
-// Where the point stands in a pattern, and choices by it, for trunc and floor. Nothing here needs a jump.
+// Where the point stands in a pattern, and choices by it. Nothing here needs a jump.
 ghost use mathlib.Core.Path.{_≡_};
 ghost use Prim.Native.Nat.{suc, _+_, _-_, _*_, _/_, _%_, _≤_, _<_, _^_};
 ghost use Rattle.ieee.specs.Pattern.{magnitude};

@@ -1,16 +1,14 @@
--- The choice by the point is floor (Method). Assumes nothing.
+-- The choice by the point is floor, or ceil (Directions). Assumes nothing.
 use mathlib.Core.Path.{_≡_, sym, ap, _∙_, subst}
 use borrow.Author.Needs.{needs}
 use Rattle.ieee.specs.Pattern.{Pattern}
-use Rattle.ieee.specs.Whole.{floorOf}
-use Rattle.ieee.proofs.Wholes.{floor-pattern}
 use Rattle.fmt_fields.specs.Width.{format}
 use Rattle.integral.specs.Point.{exponentOf, behindOf, byPoint, Mask}
+use Rattle.integral.specs.Directed.{directed, goesAway, cutBy}
 use Rattle.integral.proofs.Masks.{behind-mask}
-use Rattle.integral.specs.Floors.{cutDown}
-use Rattle.integral.proofs.Method.{floor-by-point}
-use Rattle.integral.proofs.floor.floor_pattern.Statement.{statement}
-use Rattle.integral.proofs.floor.floor_pattern.Tie as tie
+use Rattle.integral.proofs.Directions.{directed-by-point, directed-pattern}
+use Rattle.integral.proofs.directed.directed_pattern.Statement.{statement}
+use Rattle.integral.proofs.directed.directed_pattern.Tie as tie
 
 exponent-of-requires : tie.Need-exponent-of-requires
 exponent-of-requires c κs = search needs
@@ -22,13 +20,13 @@ fraction-mask-requires c κs = search needs
 mask-is : (c : tie.After-fraction-mask) → let s = c .before .before .args in c .fraction-mask .result ≡ behindOf (s .frac) (exponentOf (format (s .frac) (s .expo)) (s .x))
 mask-is c = c .fraction-mask .ensures ∙ ap (behindOf (c .before .before .args .frac)) (c .before .exponent-of .ensures)
 
-cut-down-requires : tie.Need-cut-down-requires
-cut-down-requires c κs =
+cut-by-requires : tie.Need-cut-by-requires
+cut-by-requires c κs =
     let s = c .before .before in
     (s .pre .0, s .pre .1, subst Mask (sym (mask-is c)) (behind-mask (s .args .frac) (exponentOf (format (s .args .frac) (s .args .expo)) (s .args .x))))
 
-floor-below-one-requires : tie.Need-floor-below-one-requires
-floor-below-one-requires c κs = search needs
+send-below-one-requires : tie.Need-send-below-one-requires
+send-below-one-requires c κs = search needs
 
 canonicalise-requires : tie.Need-canonicalise-requires
 canonicalise-requires c κs = search needs
@@ -45,9 +43,10 @@ returns c =
     let s = m .before .before in
     let f = format (s .args .frac) (s .args .expo) in
     let x = s .args .x in
-    let part = u .cut-down .ensures ∙ ap (cutDown f x) (mask-is m) in
-    let e : c .choose-by-point .result ≡ floorOf f x = c .choose-by-point .ensures ∙ (λ i. byPoint f x (l .floor-below-one .ensures i) (part i) (o .canonicalise .ensures i)) ∙ floor-by-point (s .pre .0) x (s .pre .1) in
-    (e, subst (Pattern f) (sym e) (floor-pattern f (s .pre .0 .fair) x (s .pre .1)))
+    let g = goesAway f (s .args .up) x in
+    let part = u .cut-by .ensures ∙ ap (cutBy g x) (mask-is m) in
+    let e : c .choose-by-point .result ≡ directed f (s .args .up) x = c .choose-by-point .ensures ∙ (λ i. byPoint f x (l .send-below-one .ensures i) (part i) (o .canonicalise .ensures i)) ∙ directed-by-point (s .pre .0) (s .args .up) x (s .pre .1) in
+    (e, subst (Pattern f) (sym e) (directed-pattern f (s .pre .0 .fair) (s .args .up) x (s .pre .1)))
 
-pub floor-pattern-spec : {M : Type 1} → statement M
-floor-pattern-spec = tie.close (tie.spec exponent-of-requires fraction-mask-requires cut-down-requires floor-below-one-requires canonicalise-requires choose-by-point-requires returns)
+pub directed-pattern-spec : {M : Type 1} → statement M
+directed-pattern-spec = tie.close (tie.spec exponent-of-requires fraction-mask-requires cut-by-requires send-below-one-requires canonicalise-requires choose-by-point-requires returns)
