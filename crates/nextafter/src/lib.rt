@@ -1,0 +1,2 @@
+// nextafter: the next number from x toward y.
+pub mod nextafter;
