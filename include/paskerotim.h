@@ -1,10 +1,10 @@
-/* Paskerotim: sqrt, fma, fmod, remquo, scalbn, floor and trunc on bit patterns, a call on lists of patterns, and a reduction
-   of whole numbers, all computed in whole-number arithmetic.
+/* Paskerotim: sqrt, fma, fmod, remquo, scalbn, floor, trunc, ceil, modf, frexp, ilogb and nextafter on bit patterns, a call on
+   lists of patterns, and a reduction of whole numbers, all computed in whole-number arithmetic.
 
    A pattern is the bits of an IEEE 754 number as an unsigned integer: binary64 in a uint64_t, binary32 in a uint32_t. A name
    that ends in a width takes patterns: pk_sqrt64. ISO C's own names take numbers: pk_sqrt a double, pk_sqrtf a float. A name
    that ends in _flags gives the same answer with its flags; one that ends in _rounded takes a rounding attribute first. One
-   call answers one question: what has a second part, as flags or a quotient, puts it where the last argument points to. What
+   call answers one question: what has a second part, as flags or an exponent, puts it where the last argument points to. What
    may be refused gives the refusal's number, and its value goes through a pointer too.
 
    Every function on patterns is proved to give the answer described here, for every input. docs/TRUST.md says what that
@@ -105,6 +105,12 @@ enum pk_list_operation {
 #define PK_DIVISOR_LIMIT64 UINT64_C(0x3fffffffffffffff) /* 2^62 - 1 */
 #define PK_DIVISOR_LIMIT32 UINT32_C(0x3fffffff)         /* 2^30 - 1 */
 
+/* What ilogb gives for a zero, a NaN and an infinity. ISO C leaves the first two to the C library, whose FP_ILOGB0 and
+   FP_ILOGBNAN may be other numbers than these. */
+#define PK_ILOGB_ZERO INT32_MIN
+#define PK_ILOGB_NAN INT32_MIN
+#define PK_ILOGB_INFINITY INT32_MAX
+
 /* ---- Functions on patterns */
 
 /* sqrt: the root of x, rounded once.
@@ -137,6 +143,21 @@ uint32_t pk_trunc32(uint32_t x);
 uint64_t pk_trunc64_flags(uint64_t x, uint32_t *flags);
 uint32_t pk_trunc32_flags(uint32_t x, uint32_t *flags);
 
+/* ceil: the least whole number that is not below x, exactly.
+   Zeros of either sign and infinities are returned as they are. A NaN gives the canonical NaN. Between 0 and 1 the answer
+   is 1, between -1 and 0 it is -0.
+   Flags: by the rule of floor's. */
+uint64_t pk_ceil64(uint64_t x);
+uint32_t pk_ceil32(uint32_t x);
+uint64_t pk_ceil64_flags(uint64_t x, uint32_t *flags);
+uint32_t pk_ceil32_flags(uint32_t x, uint32_t *flags);
+
+/* modf: the fraction of x, exactly. *whole becomes x without it, which is trunc's answer. Both have the sign of x, as zeros
+   too.
+   An infinity has a fraction of zero. A NaN gives the canonical NaN, and *whole becomes it too. */
+uint64_t pk_modf64(uint64_t x, uint64_t *whole);
+uint32_t pk_modf32(uint32_t x, uint32_t *whole);
+
 /* fma: x times y plus z, rounded once.
    The canonical NaN if any operand is a NaN, if a zero is multiplied by an infinity, or if an infinite product meets an
    infinite z of the other sign. Otherwise an infinite product, or else an infinite z, is the answer. An exact sum of zero
@@ -160,6 +181,26 @@ uint64_t pk_scalbn64_flags(uint64_t x, int32_t n, uint32_t *flags);
 uint32_t pk_scalbn32_flags(uint32_t x, int32_t n, uint32_t *flags);
 uint32_t pk_scalbn64_rounded(uint32_t attribute, uint64_t x, int32_t n, uint64_t *value, uint32_t *flags);
 uint32_t pk_scalbn32_rounded(uint32_t attribute, uint32_t x, int32_t n, uint32_t *value, uint32_t *flags);
+
+/* frexp: x over a power of two, exactly, so that the answer is from 1/2 up to below 1 in magnitude. *exponent becomes the
+   exponent of that power: x is the answer times 2^*exponent.
+   Zeros of either sign and infinities are returned as they are. A NaN gives the canonical NaN. For these *exponent becomes 0,
+   which ISO C asks for zeros alone and leaves open for the others. */
+uint64_t pk_frexp64(uint64_t x, int32_t *exponent);
+uint32_t pk_frexp32(uint32_t x, int32_t *exponent);
+
+/* ilogb: the exponent of x, which is the greatest n for which 2^n is not above x in magnitude. That of a subnormal number goes
+   on below the least normal number's: to -1074 at 64 bits, -149 at 32.
+   A zero gives PK_ILOGB_ZERO, a NaN PK_ILOGB_NAN, an infinity of either sign PK_ILOGB_INFINITY. */
+int32_t pk_ilogb64(uint64_t x);
+int32_t pk_ilogb32(uint32_t x);
+
+/* nextafter: the number next to x on the side of y; beside the largest number that is infinity. y itself where the two are
+   equal, as zeros of either sign are.
+   From either zero it is the smallest number with the sign of y. A step to a zero keeps the sign of x. The canonical NaN if x
+   or y is a NaN. */
+uint64_t pk_nextafter64(uint64_t x, uint64_t y);
+uint32_t pk_nextafter32(uint32_t x, uint32_t y);
 
 /* fmod: x minus trunc(x / y) times y, exactly, where x / y is the exact quotient. It has the sign of x, as a zero too.
    The canonical NaN if x is a NaN or infinite, or if y is a NaN or zero. Otherwise x itself where |x| < |y|, so for every
@@ -217,6 +258,20 @@ static inline double pk_floor(double x) { return pk_number64(pk_floor64(pk_patte
 static inline float pk_floorf(float x) { return pk_number32(pk_floor32(pk_pattern32(x))); }
 static inline double pk_trunc(double x) { return pk_number64(pk_trunc64(pk_pattern64(x))); }
 static inline float pk_truncf(float x) { return pk_number32(pk_trunc32(pk_pattern32(x))); }
+static inline double pk_ceil(double x) { return pk_number64(pk_ceil64(pk_pattern64(x))); }
+static inline float pk_ceilf(float x) { return pk_number32(pk_ceil32(pk_pattern32(x))); }
+static inline double pk_modf(double x, double *whole) {
+    uint64_t bits;
+    uint64_t fraction = pk_modf64(pk_pattern64(x), &bits);
+    *whole = pk_number64(bits);
+    return pk_number64(fraction);
+}
+static inline float pk_modff(float x, float *whole) {
+    uint32_t bits;
+    uint32_t fraction = pk_modf32(pk_pattern32(x), &bits);
+    *whole = pk_number32(bits);
+    return pk_number32(fraction);
+}
 static inline double pk_fma(double x, double y, double z) {
     return pk_number64(pk_fma64(pk_pattern64(x), pk_pattern64(y), pk_pattern64(z)));
 }
@@ -225,6 +280,26 @@ static inline float pk_fmaf(float x, float y, float z) {
 }
 static inline double pk_scalbn(double x, int n) { return pk_number64(pk_scalbn64(pk_pattern64(x), n)); }
 static inline float pk_scalbnf(float x, int n) { return pk_number32(pk_scalbn32(pk_pattern32(x), n)); }
+static inline double pk_frexp(double x, int *exponent) {
+    int32_t n;
+    uint64_t fraction = pk_frexp64(pk_pattern64(x), &n);
+    *exponent = n;
+    return pk_number64(fraction);
+}
+static inline float pk_frexpf(float x, int *exponent) {
+    int32_t n;
+    uint32_t fraction = pk_frexp32(pk_pattern32(x), &n);
+    *exponent = n;
+    return pk_number32(fraction);
+}
+static inline int pk_ilogb(double x) { return pk_ilogb64(pk_pattern64(x)); }
+static inline int pk_ilogbf(float x) { return pk_ilogb32(pk_pattern32(x)); }
+static inline double pk_nextafter(double x, double y) {
+    return pk_number64(pk_nextafter64(pk_pattern64(x), pk_pattern64(y)));
+}
+static inline float pk_nextafterf(float x, float y) {
+    return pk_number32(pk_nextafter32(pk_pattern32(x), pk_pattern32(y)));
+}
 static inline double pk_fmod(double x, double y) { return pk_number64(pk_fmod64(pk_pattern64(x), pk_pattern64(y))); }
 static inline float pk_fmodf(float x, float y) { return pk_number32(pk_fmod32(pk_pattern32(x), pk_pattern32(y))); }
 static inline double pk_remquo(double x, double y, int *quotient) {
@@ -249,6 +324,8 @@ static inline double pk_trunc_flags(double x, uint32_t *flags) {
 static inline float pk_truncf_flags(float x, uint32_t *flags) {
     return pk_number32(pk_trunc32_flags(pk_pattern32(x), flags));
 }
+static inline double pk_ceil_flags(double x, uint32_t *flags) { return pk_number64(pk_ceil64_flags(pk_pattern64(x), flags)); }
+static inline float pk_ceilf_flags(float x, uint32_t *flags) { return pk_number32(pk_ceil32_flags(pk_pattern32(x), flags)); }
 static inline double pk_fma_flags(double x, double y, double z, uint32_t *flags) {
     return pk_number64(pk_fma64_flags(pk_pattern64(x), pk_pattern64(y), pk_pattern64(z), flags));
 }
@@ -354,6 +431,9 @@ using where = typename std::enable_if<faults<F, A...>::value == number>::type;
 PK_CHECKED_(pk_sqrt64); PK_CHECKED_(pk_sqrt32); PK_CHECKED_(pk_sqrt64_flags); PK_CHECKED_(pk_sqrt32_flags);
 PK_CHECKED_(pk_floor64); PK_CHECKED_(pk_floor32); PK_CHECKED_(pk_floor64_flags); PK_CHECKED_(pk_floor32_flags);
 PK_CHECKED_(pk_trunc64); PK_CHECKED_(pk_trunc32); PK_CHECKED_(pk_trunc64_flags); PK_CHECKED_(pk_trunc32_flags);
+PK_CHECKED_(pk_ceil64); PK_CHECKED_(pk_ceil32); PK_CHECKED_(pk_ceil64_flags); PK_CHECKED_(pk_ceil32_flags);
+PK_CHECKED_(pk_modf64); PK_CHECKED_(pk_modf32); PK_CHECKED_(pk_frexp64); PK_CHECKED_(pk_frexp32);
+PK_CHECKED_(pk_ilogb64); PK_CHECKED_(pk_ilogb32); PK_CHECKED_(pk_nextafter64); PK_CHECKED_(pk_nextafter32);
 PK_CHECKED_(pk_fma64); PK_CHECKED_(pk_fma32); PK_CHECKED_(pk_fma64_flags); PK_CHECKED_(pk_fma32_flags);
 PK_CHECKED_(pk_scalbn64); PK_CHECKED_(pk_scalbn32); PK_CHECKED_(pk_scalbn64_flags); PK_CHECKED_(pk_scalbn32_flags);
 PK_CHECKED_(pk_sqrt64_rounded); PK_CHECKED_(pk_sqrt32_rounded); PK_CHECKED_(pk_fma64_rounded); PK_CHECKED_(pk_fma32_rounded);
@@ -364,6 +444,9 @@ PK_CHECKED_(pk_pattern64); PK_CHECKED_(pk_pattern32); PK_CHECKED_(pk_number64); 
 PK_CHECKED_(pk_sqrt); PK_CHECKED_(pk_sqrtf); PK_CHECKED_(pk_sqrt_flags); PK_CHECKED_(pk_sqrtf_flags);
 PK_CHECKED_(pk_floor); PK_CHECKED_(pk_floorf); PK_CHECKED_(pk_floor_flags); PK_CHECKED_(pk_floorf_flags);
 PK_CHECKED_(pk_trunc); PK_CHECKED_(pk_truncf); PK_CHECKED_(pk_trunc_flags); PK_CHECKED_(pk_truncf_flags);
+PK_CHECKED_(pk_ceil); PK_CHECKED_(pk_ceilf); PK_CHECKED_(pk_ceil_flags); PK_CHECKED_(pk_ceilf_flags);
+PK_CHECKED_(pk_modf); PK_CHECKED_(pk_modff); PK_CHECKED_(pk_frexp); PK_CHECKED_(pk_frexpf);
+PK_CHECKED_(pk_ilogb); PK_CHECKED_(pk_ilogbf); PK_CHECKED_(pk_nextafter); PK_CHECKED_(pk_nextafterf);
 PK_CHECKED_(pk_fma); PK_CHECKED_(pk_fmaf); PK_CHECKED_(pk_fma_flags); PK_CHECKED_(pk_fmaf_flags);
 PK_CHECKED_(pk_scalbn); PK_CHECKED_(pk_scalbnf); PK_CHECKED_(pk_scalbn_flags); PK_CHECKED_(pk_scalbnf_flags);
 PK_CHECKED_(pk_sqrt_rounded); PK_CHECKED_(pk_sqrtf_rounded); PK_CHECKED_(pk_fma_rounded); PK_CHECKED_(pk_fmaf_rounded);
@@ -421,6 +504,12 @@ struct pk_error_takes_nothing_wider { char unused; };
 #define pk_trunc32(x) pk_trunc32(PK_32_(x))
 #define pk_trunc64_flags(x, flags) pk_trunc64_flags(PK_64_(x), flags)
 #define pk_trunc32_flags(x, flags) pk_trunc32_flags(PK_32_(x), flags)
+#define pk_ceil64(x) pk_ceil64(PK_64_(x))
+#define pk_ceil32(x) pk_ceil32(PK_32_(x))
+#define pk_ceil64_flags(x, flags) pk_ceil64_flags(PK_64_(x), flags)
+#define pk_ceil32_flags(x, flags) pk_ceil32_flags(PK_32_(x), flags)
+#define pk_modf64(x, whole) pk_modf64(PK_64_(x), whole)
+#define pk_modf32(x, whole) pk_modf32(PK_32_(x), whole)
 #define pk_fma64(x, y, z) pk_fma64(PK_64_(x), PK_64_(y), PK_64_(z))
 #define pk_fma32(x, y, z) pk_fma32(PK_32_(x), PK_32_(y), PK_32_(z))
 #define pk_fma64_flags(x, y, z, flags) pk_fma64_flags(PK_64_(x), PK_64_(y), PK_64_(z), flags)
@@ -437,6 +526,12 @@ struct pk_error_takes_nothing_wider { char unused; };
     pk_scalbn64_rounded(PK_32_(attribute), PK_64_(x), PK_INT_(n), value, flags)
 #define pk_scalbn32_rounded(attribute, x, n, value, flags) \
     pk_scalbn32_rounded(PK_32_(attribute), PK_32_(x), PK_INT_(n), value, flags)
+#define pk_frexp64(x, exponent) pk_frexp64(PK_64_(x), exponent)
+#define pk_frexp32(x, exponent) pk_frexp32(PK_32_(x), exponent)
+#define pk_ilogb64(x) pk_ilogb64(PK_64_(x))
+#define pk_ilogb32(x) pk_ilogb32(PK_32_(x))
+#define pk_nextafter64(x, y) pk_nextafter64(PK_64_(x), PK_64_(y))
+#define pk_nextafter32(x, y) pk_nextafter32(PK_32_(x), PK_32_(y))
 #define pk_fmod64(x, y) pk_fmod64(PK_64_(x), PK_64_(y))
 #define pk_fmod32(x, y) pk_fmod32(PK_32_(x), PK_32_(y))
 #define pk_remquo64(x, y, quotient) pk_remquo64(PK_64_(x), PK_64_(y), quotient)
@@ -461,6 +556,12 @@ struct pk_error_takes_nothing_wider { char unused; };
 #define pk_truncf(x) pk_truncf(PK_FLOAT_(x))
 #define pk_trunc_flags(x, flags) pk_trunc_flags(PK_DOUBLE_(x), flags)
 #define pk_truncf_flags(x, flags) pk_truncf_flags(PK_FLOAT_(x), flags)
+#define pk_ceil(x) pk_ceil(PK_DOUBLE_(x))
+#define pk_ceilf(x) pk_ceilf(PK_FLOAT_(x))
+#define pk_ceil_flags(x, flags) pk_ceil_flags(PK_DOUBLE_(x), flags)
+#define pk_ceilf_flags(x, flags) pk_ceilf_flags(PK_FLOAT_(x), flags)
+#define pk_modf(x, whole) pk_modf(PK_DOUBLE_(x), whole)
+#define pk_modff(x, whole) pk_modff(PK_FLOAT_(x), whole)
 #define pk_fma(x, y, z) pk_fma(PK_DOUBLE_(x), PK_DOUBLE_(y), PK_DOUBLE_(z))
 #define pk_fmaf(x, y, z) pk_fmaf(PK_FLOAT_(x), PK_FLOAT_(y), PK_FLOAT_(z))
 #define pk_fma_flags(x, y, z, flags) pk_fma_flags(PK_DOUBLE_(x), PK_DOUBLE_(y), PK_DOUBLE_(z), flags)
@@ -477,6 +578,12 @@ struct pk_error_takes_nothing_wider { char unused; };
     pk_scalbn_rounded(PK_32_(attribute), PK_DOUBLE_(x), PK_INT_(n), value, flags)
 #define pk_scalbnf_rounded(attribute, x, n, value, flags) \
     pk_scalbnf_rounded(PK_32_(attribute), PK_FLOAT_(x), PK_INT_(n), value, flags)
+#define pk_frexp(x, exponent) pk_frexp(PK_DOUBLE_(x), exponent)
+#define pk_frexpf(x, exponent) pk_frexpf(PK_FLOAT_(x), exponent)
+#define pk_ilogb(x) pk_ilogb(PK_DOUBLE_(x))
+#define pk_ilogbf(x) pk_ilogbf(PK_FLOAT_(x))
+#define pk_nextafter(x, y) pk_nextafter(PK_DOUBLE_(x), PK_DOUBLE_(y))
+#define pk_nextafterf(x, y) pk_nextafterf(PK_FLOAT_(x), PK_FLOAT_(y))
 #define pk_fmod(x, y) pk_fmod(PK_DOUBLE_(x), PK_DOUBLE_(y))
 #define pk_fmodf(x, y) pk_fmodf(PK_FLOAT_(x), PK_FLOAT_(y))
 #define pk_remquo(x, y, quotient) pk_remquo(PK_DOUBLE_(x), PK_DOUBLE_(y), quotient)

@@ -4,7 +4,7 @@ ghost use Rattle.ieee.specs.Format.{b64, b32};
 ghost use Rattle.ieee.specs.Fma.{fmaOf, fmaFlags};
 ghost use Rattle.ieee.specs.Scalbn.{scalbnOf, scalbnFlags};
 ghost use Rattle.ieee.specs.Sqrt.{sqrtOf, sqrtFlags};
-ghost use Rattle.ieee.specs.Whole.{truncOf, truncFlags, floorOf, floorFlags};
+ghost use Rattle.ieee.specs.Whole.{truncOf, truncFlags, floorOf, floorFlags, ceilOf, ceilFlags};
 ghost use Rattle.fmt_fields.specs.Raised.{flagsOf};
 ghost use Rattle.flagged.specs.Record.{recordOf};
 use fmt_fields::env::Raised;
@@ -103,6 +103,28 @@ pub fn trunc32_flags(x: u32) -> Flagged32
     ensures { λ r. ⌜ (r .value ≡ truncOf b32 x) × (recordOf (r .flags) ≡ truncFlags b32 x) ⌝ }
 {
     let a = integral::trunc::trunc32_flags(x);
+    let raised = a.flags;
+    Flagged32 {
+        value: a.value,
+        flags: record_of(raised),
+    }
+}
+
+pub fn ceil64_flags(x: u64) -> Flagged64
+    ensures { λ r. ⌜ (r .value ≡ ceilOf b64 x) × (recordOf (r .flags) ≡ ceilFlags b64 x) ⌝ }
+{
+    let a = integral::ceil::ceil64_flags(x);
+    let raised = a.flags;
+    Flagged64 {
+        value: a.value,
+        flags: record_of(raised),
+    }
+}
+
+pub fn ceil32_flags(x: u32) -> Flagged32
+    ensures { λ r. ⌜ (r .value ≡ ceilOf b32 x) × (recordOf (r .flags) ≡ ceilFlags b32 x) ⌝ }
+{
+    let a = integral::ceil::ceil32_flags(x);
     let raised = a.flags;
     Flagged32 {
         value: a.value,

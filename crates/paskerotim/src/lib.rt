@@ -4,17 +4,22 @@ ghost use Rattle.ieee.specs.Flags.{flagWord};
 ghost use Rattle.ieee.specs.Format.{b64, b32};
 ghost use Rattle.ieee.specs.Fma.{fmaOf, fmaFlags};
 ghost use Rattle.ieee.specs.Fmod.{fmodOf};
+ghost use Rattle.ieee.specs.Frexp.{frexpOf, frexpExponent, ilogbOf};
 ghost use Rattle.ieee.specs.Lists.{listOf};
+ghost use Rattle.ieee.specs.Modf.{modfOf, modfWhole};
+ghost use Rattle.ieee.specs.Nextafter.{nextafterOf};
 ghost use Rattle.ieee.specs.Reduction.{reduceOf};
 ghost use Rattle.ieee.specs.Refusal.{numberOf, valueOf};
 ghost use Rattle.ieee.specs.Remquo.{remquoOf, quotientOf};
 ghost use Rattle.ieee.specs.Rounded.{sqrtRounded, fmaRounded, scalbnRounded};
 ghost use Rattle.ieee.specs.Scalbn.{scalbnOf, scalbnFlags};
 ghost use Rattle.ieee.specs.Sqrt.{sqrtOf, sqrtFlags};
-ghost use Rattle.ieee.specs.Whole.{truncOf, truncFlags, floorOf, floorFlags};
+ghost use Rattle.ieee.specs.Whole.{truncOf, truncFlags, floorOf, floorFlags, ceilOf, ceilFlags};
 pub use flagged::Flagged32;
 pub use flagged::Flagged64;
 pub use flagged::Flags;
+pub use flagged::ceil32_flags;
+pub use flagged::ceil64_flags;
 pub use flagged::floor32_flags;
 pub use flagged::floor64_flags;
 pub use flagged::fma32_flags;
@@ -38,12 +43,26 @@ pub use fma::fma::fma64;
 pub use fmod::fmod::fmod32;
 pub use fmod::fmod::fmod64;
 use fmt_fields::env::word_of;
+pub use frexp::answer::Frexp32;
+pub use frexp::answer::Frexp64;
+pub use frexp::frexp::frexp32;
+pub use frexp::frexp::frexp64;
+pub use frexp::ilogb::ilogb32;
+pub use frexp::ilogb::ilogb64;
+pub use integral::ceil::ceil32;
+pub use integral::ceil::ceil64;
 pub use integral::floor::floor32;
 pub use integral::floor::floor64;
+pub use integral::modf::Parted32;
+pub use integral::modf::Parted64;
+pub use integral::modf::modf32;
+pub use integral::modf::modf64;
 pub use integral::trunc::trunc32;
 pub use integral::trunc::trunc64;
 pub use lists::Listed64;
 pub use lists::call::list64;
+pub use nextafter::nextafter::nextafter32;
+pub use nextafter::nextafter::nextafter64;
 pub use reduce::Reduced32;
 pub use reduce::Reduced64;
 pub use reduce::reduce::reduce32;
@@ -126,6 +145,58 @@ pub extern "C" fn pk_floor32_flags(x: u32, flags: &mut u32) -> u32
 }
 
 #[no_mangle]
+pub extern "C" fn pk_ceil64(x: u64) -> u64
+    ensures { λ r. ⌜ r ≡ ceilOf b64 x ⌝ }
+{
+    ceil64(x)
+}
+
+#[no_mangle]
+pub extern "C" fn pk_ceil64_flags(x: u64, flags: &mut u32) -> u64
+    ensures { λ r. ⌜ (r ≡ ceilOf b64 x) × (now (flags .exit) ≡ flagWord (ceilFlags b64 x)) ⌝ }
+{
+    let a = integral::ceil::ceil64_flags(x);
+    let raised = a.flags;
+    *flags = word_of(raised);
+    a.value
+}
+
+#[no_mangle]
+pub extern "C" fn pk_ceil32(x: u32) -> u32
+    ensures { λ r. ⌜ r ≡ ceilOf b32 x ⌝ }
+{
+    ceil32(x)
+}
+
+#[no_mangle]
+pub extern "C" fn pk_ceil32_flags(x: u32, flags: &mut u32) -> u32
+    ensures { λ r. ⌜ (r ≡ ceilOf b32 x) × (now (flags .exit) ≡ flagWord (ceilFlags b32 x)) ⌝ }
+{
+    let a = integral::ceil::ceil32_flags(x);
+    let raised = a.flags;
+    *flags = word_of(raised);
+    a.value
+}
+
+#[no_mangle]
+pub extern "C" fn pk_modf64(x: u64, whole: &mut u64) -> u64
+    ensures { λ r. ⌜ (r ≡ modfOf b64 x) × (now (whole .exit) ≡ modfWhole b64 x) ⌝ }
+{
+    let a = modf64(x);
+    *whole = a.whole;
+    a.fraction
+}
+
+#[no_mangle]
+pub extern "C" fn pk_modf32(x: u32, whole: &mut u32) -> u32
+    ensures { λ r. ⌜ (r ≡ modfOf b32 x) × (now (whole .exit) ≡ modfWhole b32 x) ⌝ }
+{
+    let a = modf32(x);
+    *whole = a.whole;
+    a.fraction
+}
+
+#[no_mangle]
 pub extern "C" fn pk_scalbn64(x: u64, n: i32) -> u64
     ensures { λ r. ⌜ r ≡ scalbnOf b64 x n ⌝ }
 {
@@ -193,6 +264,54 @@ pub extern "C" fn pk_scalbn32_rounded(
     *flags = word_of(raised);
     *value = a.value;
     a.refusal
+}
+
+#[no_mangle]
+pub extern "C" fn pk_frexp64(x: u64, exponent: &mut i32) -> u64
+    ensures { λ r. ⌜ (r ≡ frexpOf b64 x) × (now (exponent .exit) ≡ frexpExponent b64 x) ⌝ }
+{
+    let a = frexp64(x);
+    let n = a.exponent;
+    *exponent = n;
+    a.fraction
+}
+
+#[no_mangle]
+pub extern "C" fn pk_frexp32(x: u32, exponent: &mut i32) -> u32
+    ensures { λ r. ⌜ (r ≡ frexpOf b32 x) × (now (exponent .exit) ≡ frexpExponent b32 x) ⌝ }
+{
+    let a = frexp32(x);
+    let n = a.exponent;
+    *exponent = n;
+    a.fraction
+}
+
+#[no_mangle]
+pub extern "C" fn pk_ilogb64(x: u64) -> i32
+    ensures { λ r. ⌜ r ≡ ilogbOf b64 x ⌝ }
+{
+    ilogb64(x)
+}
+
+#[no_mangle]
+pub extern "C" fn pk_ilogb32(x: u32) -> i32
+    ensures { λ r. ⌜ r ≡ ilogbOf b32 x ⌝ }
+{
+    ilogb32(x)
+}
+
+#[no_mangle]
+pub extern "C" fn pk_nextafter64(x: u64, y: u64) -> u64
+    ensures { λ r. ⌜ r ≡ nextafterOf b64 x y ⌝ }
+{
+    nextafter64(x, y)
+}
+
+#[no_mangle]
+pub extern "C" fn pk_nextafter32(x: u32, y: u32) -> u32
+    ensures { λ r. ⌜ r ≡ nextafterOf b32 x y ⌝ }
+{
+    nextafter32(x, y)
 }
 
 #[no_mangle]

@@ -13,8 +13,8 @@ use mathlib.Core.Logic.{_↔_}
 use mathlib.Core.Bool.{Bool, true, false}
 use mathlib.Core.List.{List}
 use native.Mathlib.Omega.{arith}
-use lib.Dec.{eqb, lit<}
-use lib.IntN.{ℤ}
+use lib.Dec.{eqb, lit≤, lit<}
+use lib.IntN.{ℤ, pos, _+ℤ_}
 use lib.Ieee.{binary64, binary32}
 use Rattle.ieee.specs.Format.{Format, b64, b32, b16, inf, canonical, units, Fair}
 use Rattle.ieee.specs.Pattern.{Pattern, minus, magnitude, value, nan, finite, kind}
@@ -34,8 +34,14 @@ use Rattle.ieee.specs.Fma.{fmaOf, fmaFlags, fmaIn, fmaFlagsIn, exactFma, zeroSi
 use Rattle.ieee.specs.FmaRows.{FmaRows}
 use Rattle.ieee.specs.Scalbn.{scalbnOf, scalbnFlags, scalbnIn, scalbnFlagsIn, exactScalbn}
 use Rattle.ieee.specs.ScalbnRows.{ScalbnRows}
-use Rattle.ieee.specs.Whole.{truncOf, truncFlags, floorOf, floorFlags}
-use Rattle.ieee.specs.WholeRule.{Truncated, Floored, WholeRows, FloorRows}
+use Rattle.ieee.specs.Whole.{truncOf, truncFlags, floorOf, floorFlags, ceilOf, ceilFlags}
+use Rattle.ieee.specs.WholeRule.{Truncated, Floored, Ceiled, WholeRows, FloorRows, CeilRows}
+use Rattle.ieee.specs.Modf.{modfOf, modfWhole}
+use Rattle.ieee.specs.ModfRule.{Parted, ModfRows}
+use Rattle.ieee.specs.Frexp.{ilogbOf, frexpOf, frexpExponent}
+use Rattle.ieee.specs.FrexpRule.{Leads, Broken, IlogbRows, FrexpRows}
+use Rattle.ieee.specs.Nextafter.{nextafterOf}
+use Rattle.ieee.specs.NextafterRule.{Ordered, Next, NextafterRows}
 use Rattle.ieee.specs.Fmod.{fmodOf}
 use Rattle.ieee.specs.FmodRule.{Left, FmodRows}
 use Rattle.ieee.specs.Remquo.{remquoOf, quotientOf}
@@ -49,6 +55,7 @@ use Rattle.ieee.specs.ListRule.{ListedAs}
 use Rattle.ieee.specs.Numbers.{Numbers64, Numbers32, FlagNumbers, Ends, Limits}
 use Rattle.ieee.specs.Cases.{Cases}
 use Rattle.ieee.specs.FlagCases.{FlagCases}
+use Rattle.ieee.specs.PartCases.{PartCases}
 use Rattle.ieee.specs.Lazy.{Lazy64, Lazy32}
 use Rattle.ieee.proofs.Formats.{fair64, fair32, numbers64, numbers32, flag-numbers, ends, limits}
 use Rattle.ieee.proofs.Patterns.{finite-is}
@@ -66,16 +73,22 @@ use Rattle.ieee.proofs.Scalbns.{scalbn-once, scalbn-met, scalbn-rows}
 use Rattle.ieee.proofs.ScalbnFlags.{scalbn-flags-rule, scalbn-flag-rows, scalbn-clean, scalbn-band}
 use Rattle.ieee.proofs.RoundedCalls.{sqrt-by-number, fma-by-number, scalbn-by-number, sqrt-under, fma-under, scalbn-under, ten}
 use Rattle.ieee.proofs.Wholes.{trunc-is, trunc-only, trunc-rows, floor-is, floor-only, floor-rows}
-use Rattle.ieee.proofs.WholeFlags.{whole-clean, trunc-flag-rows, floor-flag-rows}
+use Rattle.ieee.proofs.Ceils.{ceil-is, ceil-only, ceil-rows}
+use Rattle.ieee.proofs.WholeFlags.{whole-clean, trunc-flag-rows, floor-flag-rows, ceil-flag-rows}
+use Rattle.ieee.proofs.Modfs.{modf-is, modf-only, modf-rows, modf-whole-is-trunc}
+use Rattle.ieee.proofs.Leads.{ilogb-is, ilogb-only, ilogb-rows}
+use Rattle.ieee.proofs.Frexps.{frexp-is, frexp-only, frexp-rows, frexp-after-ilogb}
+use Rattle.ieee.proofs.Nexts.{next-is, next-only, next-rows, next-back, next-back-value}
 use Rattle.ieee.proofs.Invalids.{sqrt-invalid, fma-invalid, scalbn-invalid, whole-invalid}
 use Rattle.ieee.proofs.Remainders.{fmod-is, fmod-only, fmod-rows}
 use Rattle.ieee.proofs.Remquos.{remquo-is, remquo-only, remquo-rows}
 use Rattle.ieee.proofs.Reductions.{reduction-is, reduction-only}
 use Rattle.ieee.proofs.ListCalls.{list-of-is, list-only}
-use Rattle.ieee.proofs.Settled.{sqrt-settled, fma-settled, scalbn-settled, floor-settled, trunc-settled, fmod-settled, remquo-settled}
-use Rattle.ieee.proofs.FlagsSettled.{sqrt-raises-settled, fma-raises-settled, scalbn-raises-settled, floor-raises-settled, trunc-raises-settled}
+use Rattle.ieee.proofs.Settled.{sqrt-settled, fma-settled, scalbn-settled, floor-settled, trunc-settled, ceil-settled, modf-settled, frexp-settled, ilogb-settled, next-settled, fmod-settled, remquo-settled}
+use Rattle.ieee.proofs.FlagsSettled.{sqrt-raises-settled, fma-raises-settled, scalbn-raises-settled, floor-raises-settled, trunc-raises-settled, ceil-raises-settled}
 use Rattle.ieee.proofs.Cases.{cases}
 use Rattle.ieee.proofs.FlagCases.{flag-cases}
+use Rattle.ieee.proofs.PartCases.{part-cases}
 use Rattle.ieee.proofs.Lazy.{lazy64, lazy32}
 use Rattle.ieee_agreement_laws.specs.Agrees.{Agrees}
 use Rattle.ieee_agreement_laws.proofs.Agreement.{agrees}
@@ -129,11 +142,32 @@ floor-by-rows f g = floor-rows f g
 pub trunc-by-rows : (f : Format) → WholeRows f (truncOf f)
 trunc-by-rows f = trunc-rows f
 
--- code: as sqrt-is-settled, fma-is-settled, fmod-is-settled, remquo-is-settled, scalbn-is-settled, floor-is-settled, trunc-is-settled
--- a NaN among the operands gives the canonical NaN, in all seven operations
+-- code: as ceil-is-settled
+pub ceil-by-rows : (f : Format) → Fair f → CeilRows f (ceilOf f)
+ceil-by-rows f g = ceil-rows f g
+
+-- code: as modf-is-settled
+pub modf-by-rows : (f : Format) → ModfRows f (modfOf f) (modfWhole f)
+modf-by-rows f = modf-rows f
+
+-- code: as frexp-is-settled
+pub frexp-by-rows : (f : Format) → FrexpRows f (frexpOf f) (frexpExponent f)
+frexp-by-rows f = frexp-rows f
+
+-- code: as ilogb-is-settled
+pub ilogb-by-rows : (f : Format) → IlogbRows f (ilogbOf f)
+ilogb-by-rows f = ilogb-rows f
+
+-- code: as nextafter-is-settled
+pub nextafter-by-rows : (f : Format) → NextafterRows f (nextafterOf f)
+nextafter-by-rows f = next-rows f
+
+-- code: as sqrt-is-settled, fma-is-settled, fmod-is-settled, remquo-is-settled, scalbn-is-settled, floor-is-settled, trunc-is-settled, ceil-is-settled, modf-is-settled, frexp-is-settled, nextafter-is-settled
+-- a NaN among the operands gives the canonical NaN, in every operation that answers with a pattern, and in both of modf's
 pub every-nan-is-canonical : (f : Format) → Fair f → (x y z : ℕ) (n : ℤ) → kind f x ≡ nan
     → (sqrtOf f x ≡ canonical f) × (fmaOf f x y z ≡ canonical f) × (fmaOf f y x z ≡ canonical f) × (fmaOf f y z x ≡ canonical f) × (fmodOf f x y ≡ canonical f) × (fmodOf f y x ≡ canonical f)
     × (remquoOf f x y ≡ canonical f) × (remquoOf f y x ≡ canonical f) × (scalbnOf f x n ≡ canonical f) × (floorOf f x ≡ canonical f) × (truncOf f x ≡ canonical f)
+    × (ceilOf f x ≡ canonical f) × (modfOf f x ≡ canonical f) × (modfWhole f x ≡ canonical f) × (frexpOf f x ≡ canonical f) × (nextafterOf f x y ≡ canonical f) × (nextafterOf f y x ≡ canonical f)
 every-nan-is-canonical f g x y z n h = (
   sqrt-by-rows f .of-nan x h,
   fma-by-rows f x y z .nan-first h,
@@ -146,6 +180,12 @@ every-nan-is-canonical f g x y z n h = (
   scalbn-by-rows f g x n .of-nan h,
   floor-by-rows f g .rows .of-nan x h,
   trunc-by-rows f .of-nan x h,
+  ceil-by-rows f g .rows .of-nan x h,
+  modf-by-rows f .of-nan x h .0,
+  modf-by-rows f .of-nan x h .1,
+  frexp-by-rows f .of-nan x h .0,
+  nextafter-by-rows f .nan-x x y h,
+  nextafter-by-rows f .nan-y y x h,
 )
 
 -- code: none, any list of refusals
@@ -169,7 +209,7 @@ pub reduction-is-settled : (w x e y : ℕ) → ReducedAs w x e y (reduceOf w x e
     × ((a : Answer) → ReducedAs w x e y a → (numberOf a ≡ numberOf (reduceOf w x e y)) × (valueOf a ≡ valueOf (reduceOf w x e y)))
 reduction-is-settled w x e y = (reduction-is w x e y, λ a h. reduction-only a (reduceOf w x e y) h (reduction-is w x e y))
 
--- ======== 2. What is exact is exact: fmod, remquo, floor, trunc and the reduction lose nothing, signs of zero included.
+-- ======== 2. What is exact is exact: fmod, remquo, floor, trunc, ceil, modf, frexp, ilogb, nextafter and the reduction lose nothing, signs of zero included.
 -- code: as floor-is-settled
 -- the whole k with k ≤ x < k + 1, nothing rounded, the sign kept; and no other pattern
 pub floor-is-exact : (f : Format) → Fair f → (x u : ℕ) → kind f x ≡ finite u → Only (Floored f x) (floorOf f x)
@@ -179,6 +219,55 @@ floor-is-exact f g x u h = (floor-is f g x u h, λ q a. floor-only f x q (floorO
 -- the whole k with |k| ≤ |x| < |k| + 1, the sign kept; and no other pattern
 pub trunc-is-exact : (f : Format) → Fair f → (x u : ℕ) → kind f x ≡ finite u → Only (Truncated f x) (truncOf f x)
 trunc-is-exact f g x u h = (trunc-is f g x u h, λ q a. trunc-only f x q (truncOf f x) a (trunc-is f g x u h))
+
+-- code: as ceil-is-settled
+-- the whole k with k - 1 < x ≤ k, nothing rounded, the sign kept; and no other pattern
+pub ceil-is-exact : (f : Format) → Fair f → (x u : ℕ) → kind f x ≡ finite u → Only (Ceiled f x) (ceilOf f x)
+ceil-is-exact f g x u h = (ceil-is f g x u h, λ q a. ceil-only f x q (ceilOf f x) a (ceil-is f g x u h))
+
+-- code: as modf-is-settled
+-- less than one and a whole number of ones, both with the sign of x, which add to x exactly; and no other two
+pub modf-is-exact : (f : Format) → Fair f → (x u : ℕ) → kind f x ≡ finite u → Parted f x (modfOf f x) (modfWhole f x)
+    × ((r w : ℕ) → Parted f x r w → (r ≡ modfOf f x) × (w ≡ modfWhole f x))
+modf-is-exact f g x u h = let p = modf-is f g x u h in (p, λ r w a. modf-only f x r (modfOf f x) w (modfWhole f x) a p)
+
+-- code: as modf-is-settled, trunc-is-settled
+pub modf-cuts-as-trunc : (f : Format) (x : ℕ) → modfWhole f x ≡ truncOf f x
+modf-cuts-as-trunc = modf-whole-is-trunc
+
+-- code: as ilogb-is-settled
+-- the n with 2 ^ n ≤ |x| < 2 ^ (n + 1); and no other
+pub ilogb-is-exact : (f : Format) → Fair f → (x u : ℕ) → kind f x ≡ finite (suc u) → Leads f x (ilogbOf f x) × ((n : ℤ) → Leads f x n → n ≡ ilogbOf f x)
+ilogb-is-exact f g x u h = let l = ilogb-is f g x u h in (l, λ n a. ilogb-only f x n (ilogbOf f x) a l)
+
+-- code: as frexp-is-settled
+-- a fraction of magnitude at least 1 / 2 and below 1, and an exponent by which scalbn returns x, with nothing rounded; and no other two.
+-- In a format with two exponent bits 1 / 2 is subnormal, and some fractions are no numbers of it
+pub frexp-is-exact : (f : Format) → Fair f → 3 ≤ f .expo → (x u : ℕ) → Pattern f x → kind f x ≡ finite (suc u) → Broken f x (frexpOf f x) (frexpExponent f x)
+    × ((r : ℕ) (n : ℤ) → Broken f x r n → (r ≡ frexpOf f x) × (n ≡ frexpExponent f x))
+frexp-is-exact f g t x u p h = let b = frexp-is f g t x u p h in (b, λ r n a. frexp-only f x r (frexpOf f x) n (frexpExponent f x) a b)
+
+-- code: none, the formats
+pub standard-formats-have-fractions : (3 ≤ b16 .expo) × (3 ≤ b32 .expo) × (3 ≤ b64 .expo)
+standard-formats-have-fractions = (lit≤ tt, lit≤ tt, lit≤ tt)
+
+-- code: as frexp-is-settled, ilogb-is-settled
+pub frexp-is-one-past-ilogb : (f : Format) (x u : ℕ) → kind f x ≡ finite (suc u) → frexpExponent f x ≡ ilogbOf f x +ℤ pos 1
+frexp-is-one-past-ilogb = frexp-after-ilogb
+
+-- code: as nextafter-is-settled
+-- y where x equals y; otherwise past x toward y, at most at y, with no number of the format strictly between x and it; a zero keeps the sign of x; and no other pattern
+pub nextafter-is-next : (f : Format) (x y : ℕ) → Ordered f x → Ordered f y → Only (Next f x y) (nextafterOf f x y)
+nextafter-is-next f x y o t = let n = next-is f x y o t in (n, λ q a. next-only f x y q (nextafterOf f x y) o t a n)
+
+-- code: as nextafter-is-settled
+-- a step back returns x, an infinity too; but for a step from a zero, which may come back with the other sign
+pub nextafter-leads-back : (f : Format) (x y : ℕ) → Ordered f x → Ordered f y → (magnitude f x ≡ 0 → value f x ≡ value f y) → nextafterOf f (nextafterOf f x y) x ≡ x
+nextafter-leads-back = next-back
+
+-- code: as nextafter-is-settled
+pub nextafter-leads-back-to-zero : (f : Format) (x y : ℕ) → Ordered f x → Ordered f y → value f (nextafterOf f (nextafterOf f x y) x) ≡ value f x
+nextafter-leads-back-to-zero = next-back-value
 
 -- code: as fmod-is-settled
 -- |x| = n |y| + |r| with |r| < |y|, the sign of x; and no other pattern
@@ -246,6 +335,29 @@ floor-is-settled = floor-settled
 pub trunc-is-settled : (f : Format) → Fair f → (o : ℕ → ℕ) → WholeRows f o → ((x u : ℕ) → kind f x ≡ finite u → Truncated f x (o x)) → (x : ℕ) → o x ≡ truncOf f x
 trunc-is-settled = trunc-settled
 
+-- code: ceil64, ceil32, pk_ceil64, pk_ceil32
+pub ceil-is-settled : (f : Format) → Fair f → (o : ℕ → ℕ) → CeilRows f o → ((x u : ℕ) → kind f x ≡ finite u → Ceiled f x (o x)) → (x : ℕ) → o x ≡ ceilOf f x
+ceil-is-settled = ceil-settled
+
+-- code: modf64, modf32, pk_modf64, pk_modf32
+pub modf-is-settled : (f : Format) → Fair f → (o w : ℕ → ℕ) → ModfRows f o w → ((x u : ℕ) → kind f x ≡ finite u → Parted f x (o x) (w x))
+    → (x : ℕ) → (o x ≡ modfOf f x) × (w x ≡ modfWhole f x)
+modf-is-settled = modf-settled
+
+-- code: frexp64, frexp32, pk_frexp64, pk_frexp32
+pub frexp-is-settled : (f : Format) → Fair f → 3 ≤ f .expo → (o : ℕ → ℕ) (e : ℕ → ℤ) → FrexpRows f o e
+    → ((x u : ℕ) → Pattern f x → kind f x ≡ finite (suc u) → Broken f x (o x) (e x)) → (x : ℕ) → Pattern f x → (o x ≡ frexpOf f x) × (e x ≡ frexpExponent f x)
+frexp-is-settled = frexp-settled
+
+-- code: ilogb64, ilogb32, pk_ilogb64, pk_ilogb32
+pub ilogb-is-settled : (f : Format) → Fair f → (o : ℕ → ℤ) → IlogbRows f o → ((x u : ℕ) → kind f x ≡ finite (suc u) → Leads f x (o x)) → (x : ℕ) → o x ≡ ilogbOf f x
+ilogb-is-settled = ilogb-settled
+
+-- code: nextafter64, nextafter32, pk_nextafter64, pk_nextafter32
+pub nextafter-is-settled : (f : Format) (o : ℕ → ℕ → ℕ) → NextafterRows f o → ((x y : ℕ) → Ordered f x → Ordered f y → Next f x y (o x y))
+    → (x y : ℕ) → Pattern f x → Pattern f y → o x y ≡ nextafterOf f x y
+nextafter-is-settled = next-settled
+
 -- code: fmod64, fmod32, pk_fmod64, pk_fmod32
 pub fmod-is-settled : (f : Format) (o : ℕ → ℕ → ℕ) → FmodRows f o
     → ((x y u v : ℕ) → kind f x ≡ finite u → kind f y ≡ finite (suc v) → Left f x y (o x y)) → (x y : ℕ) → o x y ≡ fmodOf f x y
@@ -256,7 +368,7 @@ pub remquo-is-settled : (f : Format) (o : ℕ → ℕ → ℕ) (n : ℕ → ℕ 
     → ((x y u v : ℕ) → kind f x ≡ finite u → kind f y ≡ finite (suc v) → NearestLeft f x y (o x y) (n x y)) → (x y : ℕ) → (o x y ≡ remquoOf f x y) × (n x y ≡ quotientOf f x y)
 remquo-is-settled = remquo-settled
 
--- ======== sqrt, fma, scalbn, floor and trunc raise the five flags of IEEE 754: inexact exactly when the answer is not the exact value, which for floor and trunc is the operand; tininess is judged after rounding.
+-- ======== sqrt, fma, scalbn, floor, trunc and ceil raise the five flags of IEEE 754: inexact exactly when the answer is not the exact value, which for floor, trunc and ceil is the operand; tininess is judged after rounding.
 -- code: as sqrt-flags-are-settled
 -- for finite operands whose answer is not a NaN, which fma and scalbn never give for such; an infinity is never the exact value
 pub sqrt-inexact-tells : (f : Format) → Fair f → (x u : ℕ) → kind f x ≡ finite u → (kind f (sqrtOf f x) ≡ nan → ⊥) → (sqrtFlags f x .inexact ≡ true) ↔ (Exactly f (exactSqrt f x) (sqrtOf f x) → ⊥)
@@ -282,6 +394,10 @@ floor-inexact-tells f g x u p h = floor-flag-rows f g .another x u p h
 pub trunc-inexact-tells : (f : Format) → Fair f → (x u : ℕ) → Pattern f x → kind f x ≡ finite u → (truncFlags f x .inexact ≡ true) ↔ (value f (truncOf f x) ≡ value f x → ⊥)
 trunc-inexact-tells f g x u p h = trunc-flag-rows f g .another x u p h
 
+-- code: as ceil-flags-are-settled
+pub ceil-inexact-tells : (f : Format) → Fair f → (x u : ℕ) → Pattern f x → kind f x ≡ finite u → (ceilFlags f x .inexact ≡ true) ↔ (value f (ceilOf f x) ≡ value f x → ⊥)
+ceil-inexact-tells f g x u p h = ceil-flag-rows f g .another x u p h
+
 -- code: as sqrt-flags-are-settled
 -- all five, by the rule of clauses 7.4 to 7.6, which one record of flags meets
 pub sqrt-flags-by-rule : (f : Format) → Fair f → (x u : ℕ) → kind f x ≡ finite u → (minus f x ≡ true → u ≡ 0) → OnlyFlags (FlagsRule f ties-to-even (minus f x) (exactSqrt f x) (sqrtOf f x)) (sqrtFlags f x)
@@ -306,7 +422,7 @@ scalbn-flags-by-rule f g x u n h =
     (e, λ F b. rule-one f ties-to-even (minus f x) (exactScalbn f x n) (scalbnIn f ties-to-even x n) F (scalbnFlagsIn f ties-to-even x n) b e)
 
 -- code: as sqrt-flags-are-settled
--- NaNs, infinities and zeros, row by row: when invalid is raised, and that nothing else is; floor and trunc on all patterns
+-- NaNs, infinities and zeros, row by row: when invalid is raised, and that nothing else is; floor, trunc and ceil on all patterns
 pub sqrt-flags-by-rows : (f : Format) → Fair f → SqrtFlagRows f (sqrtFlags f)
 unfolding sqrtFlags
 sqrt-flags-by-rows f g = sqrt-flag-rows f g ties-to-even
@@ -329,11 +445,16 @@ floor-flags-by-rows = floor-flag-rows
 pub trunc-flags-by-rows : (f : Format) → Fair f → WholeFlagRows f (truncOf f) (truncFlags f)
 trunc-flags-by-rows = trunc-flag-rows
 
--- code: as sqrt-flags-are-settled, fma-flags-are-settled, scalbn-flags-are-settled, floor-flags-are-settled, trunc-flags-are-settled
+-- code: as ceil-flags-are-settled
+pub ceil-flags-by-rows : (f : Format) → Fair f → WholeFlagRows f (ceilOf f) (ceilFlags f)
+ceil-flags-by-rows = ceil-flag-rows
+
+-- code: as sqrt-flags-are-settled, fma-flags-are-settled, scalbn-flags-are-settled, floor-flags-are-settled, trunc-flags-are-settled, ceil-flags-are-settled
 -- invalid, exactly: a signalling NaN; the root of what is below zero; in fma zero times infinity, whatever is added, and infinities of unlike signs
 pub invalid-tells : (f : Format) → Fair f → (x y z : ℕ) (n : ℤ)
     → ((sqrtFlags f x .invalid ≡ true) ↔ SqrtInvalid f x) × ((fmaFlags f x y z .invalid ≡ true) ↔ FmaInvalid f x y z) × ((scalbnFlags f x n .invalid ≡ true) ↔ (signals f x ≡ true))
     × ((floorFlags f x .invalid ≡ true) ↔ (signals f x ≡ true)) × ((truncFlags f x .invalid ≡ true) ↔ (signals f x ≡ true))
+    × ((ceilFlags f x .invalid ≡ true) ↔ (signals f x ≡ true))
 unfolding sqrtFlags fmaFlags scalbnFlags
 invalid-tells f g x y z n = (
   sqrt-invalid f g ties-to-even x,
@@ -341,6 +462,7 @@ invalid-tells f g x y z n = (
   scalbn-invalid f g ties-to-even x n,
   whole-invalid f g (floorOf f) (floorFlags f) (floor-flag-rows f g) x,
   whole-invalid f g (truncOf f) (truncFlags f) (trunc-flag-rows f g) x,
+  whole-invalid f g (ceilOf f) (ceilFlags f) (ceil-flag-rows f g) x,
 )
 
 -- code: none, every NaN
@@ -348,17 +470,18 @@ invalid-tells f g x y z n = (
 pub signalling-is-below-the-canonical : (f : Format) → Fair f → (x : ℕ) → (signals f x ≡ true) ↔ ((inf f < magnitude f x) × (magnitude f x < canonical f))
 signalling-is-below-the-canonical = signalling
 
--- code: as sqrt-flags-are-settled, fma-flags-are-settled, scalbn-flags-are-settled, floor-flags-are-settled, trunc-flags-are-settled
+-- code: as sqrt-flags-are-settled, fma-flags-are-settled, scalbn-flags-are-settled, floor-flags-are-settled, trunc-flags-are-settled, ceil-flags-are-settled
 -- whatever the operands: overflow and underflow imply inexact, invalid stands alone, division by zero never
 pub flags-are-clean : (f : Format) → Fair f → (x y z : ℕ) (n : ℤ)
-    → Clean (sqrtFlags f x) × Clean (fmaFlags f x y z) × Clean (scalbnFlags f x n) × Clean (floorFlags f x) × Clean (truncFlags f x)
-unfolding sqrtFlags fmaFlags scalbnFlags floorFlags truncFlags
+    → Clean (sqrtFlags f x) × Clean (fmaFlags f x y z) × Clean (scalbnFlags f x n) × Clean (floorFlags f x) × Clean (truncFlags f x) × Clean (ceilFlags f x)
+unfolding sqrtFlags fmaFlags scalbnFlags floorFlags truncFlags ceilFlags
 flags-are-clean f g x y z n = (
   sqrt-clean f g ties-to-even x,
   fma-clean f g ties-to-even x y z,
   scalbn-clean f g ties-to-even x n,
   whole-clean f toward-negative x,
   whole-clean f toward-zero x,
+  whole-clean f toward-positive x,
 )
 
 -- code: none, every exact value
@@ -404,6 +527,11 @@ floor-flags-are-settled = floor-raises-settled
 pub trunc-flags-are-settled : (f : Format) → Fair f → (o : ℕ → ℕ) (F : ℕ → Flags) → WholeFlagRows f o F → WholeRows f o
     → ((x u : ℕ) → kind f x ≡ finite u → Truncated f x (o x)) → (x : ℕ) → (o x ≡ truncOf f x) × (F x ≡ truncFlags f x)
 trunc-flags-are-settled = trunc-raises-settled
+
+-- code: ceil64_flags, ceil32_flags, pk_ceil64_flags, pk_ceil32_flags
+pub ceil-flags-are-settled : (f : Format) → Fair f → (o : ℕ → ℕ) (F : ℕ → Flags) → WholeFlagRows f o F → CeilRows f o
+    → ((x u : ℕ) → kind f x ≡ finite u → Ceiled f x (o x)) → (x : ℕ) → (o x ≡ ceilOf f x) × (F x ≡ ceilFlags f x)
+ceil-flags-are-settled = ceil-raises-settled
 
 -- ======== Under each of the five attributes of IEEE 754 sqrt, fma and scalbn are the exact value rounded once by that attribute's rule, with its flags; down and up are the tightest band that holds it.
 -- code: sqrt64_rounded, sqrt32_rounded, pk_sqrt64_rounded, pk_sqrt32_rounded
@@ -597,7 +725,12 @@ pub flag-cases-hold : FlagCases
 flag-cases-hold = flag-cases
 
 -- code: none, worked cases of the definitions
--- at neither width is a lazy answer the definition's: the canonical NaN to everything, a NaN as it came, a quotient always zero, all refused, the output untouched, the first place alone filled, no flag ever, always inexact
+-- and those of ceil, modf, frexp, ilogb and nextafter
+pub part-cases-hold : PartCases
+part-cases-hold = part-cases
+
+-- code: none, worked cases of the definitions
+-- at neither width is a lazy answer the definition's: the canonical NaN to everything, a NaN as it came, the operand as it came, a quotient or an exponent always zero, all refused, the output untouched, the first place alone filled, no flag ever, always inexact
 pub lazy-answers-differ : Lazy64 × Lazy32
 lazy-answers-differ = (lazy64, lazy32)
 
