@@ -1,6 +1,7 @@
 // The operations themselves, to nearest even, on exact whole numbers of smallest units.
 
 use crate::answers_flags;
+use crate::answers_parts::{frexp, ilogb, modf, nextafter};
 use crate::attributes::Attribute;
 use crate::big::Big;
 use crate::format::{Format, WIDTH_64};
@@ -31,6 +32,13 @@ pub fn judge(operation: &Operation, operands: &[Field]) -> Vec<Field> {
             let (refusal, after) = list(*number, input, output);
             vec![Unsigned(refusal), Words(after)]
         }
+        (Task::Modf, [Word(x)]) => modf(format, *x).map(Word).to_vec(),
+        (Task::Frexp, [Word(x)]) => {
+            let (value, exponent) = frexp(format, *x);
+            vec![Word(value), Signed(exponent)]
+        }
+        (Task::Ilogb, [Word(x)]) => vec![Signed(ilogb(format, *x))],
+        (Task::Nextafter, [Word(x), Word(y)]) => vec![Word(nextafter(format, *x, *y))],
         _ => {
             let (value, flags) = settled(operation, operands);
             vec![Word(value), Field::Flags(flags)]
@@ -56,6 +64,7 @@ pub fn by_search(operation: &Operation, operands: &[Field]) -> (u64, Flags) {
         (Task::Sqrt, [Word(x)]) => sqrt(format, *x),
         (Task::Floor, [Word(x)]) => floor(format, *x),
         (Task::Trunc, [Word(x)]) => trunc(format, *x),
+        (Task::Ceil, [Word(x)]) => ceil(format, *x),
         (Task::Scalbn, [Word(x), Signed(n)]) => scalbn(format, *x, *n),
         (Task::Fma, [Word(x), Word(y), Word(z)]) => fma_with_flags(format, [*x, *y, *z]),
         _ => unreachable!("the reader admits only the operands of the table"),
@@ -89,6 +98,11 @@ pub fn floor(format: Format, x: u64) -> (u64, Flags) {
 
 pub fn trunc(format: Format, x: u64) -> (u64, Flags) {
     to_integer(format, x, false)
+}
+
+pub fn ceil(format: Format, x: u64) -> (u64, Flags) {
+    // Above zero the smallest integer not below is the one away from zero.
+    to_integer(format, x, !format.is_negative(x))
 }
 
 /// The integer next to x, away from zero or toward it, with the sign of x. It

@@ -25,13 +25,14 @@ pub fn judge(operation: &Operation, operands: &[Field]) -> Vec<Field> {
     }
 }
 
-/// Value and flags. floor and trunc have attributes of their own.
+/// Value and flags. floor, trunc and ceil have attributes of their own.
 pub fn under(operation: &Operation, attribute: Attribute, operands: &[Field]) -> (u64, Flags) {
     let format = operation.format;
     match (operation.task, operands) {
         (Task::Sqrt, [Field::Word(x)]) => sqrt(format, attribute, *x),
         (Task::Floor, [Field::Word(x)]) => to_integer(format, *x, format.is_negative(*x)),
         (Task::Trunc, [Field::Word(x)]) => to_integer(format, *x, false),
+        (Task::Ceil, [Field::Word(x)]) => to_integer(format, *x, !format.is_negative(*x)),
         (Task::Scalbn, [Field::Word(x), Field::Signed(n)]) => scalbn(format, attribute, *x, *n),
         (Task::Fma, [Field::Word(x), Field::Word(y), Field::Word(z)]) => {
             fma(format, attribute, [*x, *y, *z])

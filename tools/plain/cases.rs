@@ -1,8 +1,9 @@
 // The stream of requests of an operation, and the command that prints it.
 
 use crate::answers::judge;
+use crate::draws_next::for_next;
 use crate::draws_several::{for_fma, for_list, for_reduction, for_remainder};
-use crate::draws_single::{for_integer, for_root, for_scaling};
+use crate::draws_single::{for_exponent, for_integer, for_root, for_scaling};
 use crate::grids::{grid, triple, TRIPLES};
 use crate::lines::{write_fields, write_request};
 use crate::operands::CLASSES;
@@ -44,7 +45,10 @@ impl Requests {
         let (format, random) = (self.operation.format, &mut self.random);
         match self.operation.task {
             Task::Sqrt => vec![Word(for_root(format, turn, random))],
-            Task::Floor | Task::Trunc => vec![Word(for_integer(format, turn, random))],
+            Task::Floor | Task::Trunc | Task::Ceil | Task::Modf => {
+                vec![Word(for_integer(format, turn, random))]
+            }
+            Task::Frexp | Task::Ilogb => vec![Word(for_exponent(format, turn, random))],
             Task::Scalbn => {
                 let (x, n) = for_scaling(format, turn, random);
                 vec![Word(x), Signed(n)]
@@ -59,6 +63,7 @@ impl Requests {
                 }
             }
             Task::Fmod | Task::Remquo => for_remainder(format, turn, random).map(Word).to_vec(),
+            Task::Nextafter => for_next(format, turn, random).map(Word).to_vec(),
             Task::Reduce => {
                 let (x, shift, y) = for_reduction(format.width, turn, random);
                 vec![Word(x), Unsigned(shift), Word(y)]
@@ -82,7 +87,8 @@ pub fn print_cases(
         out,
         "# seed {seed}, count {count}; made by tools/plain (cases): for each operation a grid \
          (every pair of operand classes, for fma in each two places; the thresholds of scalbn; \
-         both sides of every refusal), then {count} drawn boundary cases; no request twice"
+         both sides of every refusal; for frexp and ilogb subnormal numbers of every length), \
+         then {count} drawn boundary cases; no request twice"
     )?;
     for operation in chosen {
         let mut requests = Requests::new(operation, seed);

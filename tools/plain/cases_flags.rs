@@ -83,12 +83,13 @@ struct Tally {
     refused: usize,
 }
 
-const TASKS: [(Task, &str); 5] = [
+const TASKS: [(Task, &str); 6] = [
     (Task::Sqrt, "sqrt"),
     (Task::Fma, "fma"),
     (Task::Scalbn, "scalbn"),
     (Task::Floor, "floor"),
     (Task::Trunc, "trunc"),
+    (Task::Ceil, "ceil"),
 ];
 
 impl Tally {

@@ -1,4 +1,4 @@
-// Drawn operands for sqrt and scalbn under an attribute, and for floor and trunc with flags.
+// Drawn operands for sqrt and scalbn under an attribute, and for floor, trunc and ceil with flags.
 
 use crate::draws_rounded::{special, Drawn};
 use crate::draws_single::{for_integer, for_root};

@@ -1,4 +1,4 @@
-// Drawn operands for sqrt, floor, trunc and scalbn, each kind built on purpose.
+// Drawn operands for the operations of one pattern and for scalbn, each kind built on purpose.
 
 use crate::big::Big;
 use crate::format::Format;
@@ -43,7 +43,7 @@ pub fn for_root(format: Format, turn: usize, random: &mut Random) -> u64 {
     }
 }
 
-/// An operand for floor and trunc.
+/// An operand for floor, trunc, ceil and modf.
 pub fn for_integer(format: Format, turn: usize, random: &mut Random) -> u64 {
     let negative = random.coin();
     let digits = format.fraction_bits;
@@ -75,6 +75,20 @@ pub fn for_integer(format: Format, turn: usize, random: &mut Random) -> u64 {
         }
     };
     signed(format, negative, magnitude)
+}
+
+/// An operand for frexp and ilogb.
+pub fn for_exponent(format: Format, turn: usize, random: &mut Random) -> u64 {
+    let magnitude = match turn % 4 {
+        0 => return any(format, random),
+        1 => near_power_of_two(format, random),
+        2 => random.up_to_bits(format.fraction_bits),
+        _ => {
+            let ends = [1, format.smallest_normal(), format.one(), format.largest_finite()];
+            neighbour(format, random.pick(&ends), random.between(-3, 3))
+        }
+    };
+    signed(format, random.coin(), magnitude)
 }
 
 /// An operand and a power for scalbn.

@@ -10,10 +10,11 @@ use crate::random::Random;
 pub fn grid(operation: &Operation, random: &mut Random) -> Vec<Vec<Field>> {
     let format = operation.format;
     match operation.task {
-        Task::Sqrt | Task::Floor | Task::Trunc => singles(format, random),
+        Task::Sqrt | Task::Floor | Task::Trunc | Task::Ceil | Task::Modf => singles(format, random),
+        Task::Frexp | Task::Ilogb => exponents(format, random),
         Task::Scalbn => scalings(format, random),
         Task::Fma => triples(format, random),
-        Task::Fmod | Task::Remquo => pairs(format, random),
+        Task::Fmod | Task::Remquo | Task::Nextafter => pairs(format, random),
         Task::Reduce => reductions(format.width),
         Task::List => lists(format, random),
     }
@@ -22,6 +23,16 @@ pub fn grid(operation: &Operation, random: &mut Random) -> Vec<Vec<Field>> {
 fn singles(format: Format, random: &mut Random) -> Vec<Vec<Field>> {
     let places = 0..3 * CLASSES;
     places.map(|place| vec![Field::Word(of_class(format, place % CLASSES, random))]).collect()
+}
+
+/// The classes, and subnormal numbers of every length.
+fn exponents(format: Format, random: &mut Random) -> Vec<Vec<Field>> {
+    let mut requests = singles(format, random);
+    for bits in 1..=format.fraction_bits {
+        let x = signed(format, random.coin(), random.of_bits(bits));
+        requests.push(vec![Field::Word(x)]);
+    }
+    requests
 }
 
 fn pairs(format: Format, random: &mut Random) -> Vec<Vec<Field>> {

@@ -2,11 +2,13 @@
 
 mod answers;
 mod answers_flags;
+mod answers_parts;
 mod attributes;
 mod big;
 mod cases;
 mod cases_flags;
 mod commands;
+mod draws_next;
 mod draws_rounded;
 mod draws_rounded_single;
 mod draws_several;
@@ -58,9 +60,11 @@ It answers all operations of docs/LINES.md, with 64, 32 or 16 for W:
   fmaW X Y Z        -> R FLAGS        fmaW.A X Y Z      -> NUMBER R FLAGS
   scalbnW X N       -> R FLAGS        scalbnW.A X N     -> NUMBER R FLAGS
   floorW X          -> R FLAGS        truncW X          -> R FLAGS
+  ceilW X           -> R FLAGS
 
-and fmod, remquo, reduce and list, which have no flags. Without an attribute a
-result is rounded to nearest even, and worked out in two ways that must agree.
+and fmod, remquo, reduce, list, modf, frexp, ilogb and nextafter, which have no
+flags. Without an attribute a result is rounded to nearest even, and worked out
+in two ways that must agree.
 A is the rounding attribute: even, zero, down, up or away, or its number, 0 to
 4 in this order. Under any other number NUMBER is 10, R zero and FLAGS OK; else
 NUMBER is 0. FLAGS is OK, or the flags raised joined by +, in this order:
@@ -90,14 +94,16 @@ cases --flags [--requests] --all --operation OP
 Prints request lines with answers for every operation of 64 and 32 bits without
 an attribute, or for OP alone: first a grid (every pair of operand classes, for
 fma in each two places and further triples as far as K reaches; the thresholds
-of scalbn; both sides of every refusal), then K drawn boundary cases. So each
-operation has at least K lines. No request comes twice. The same seed and count
-give the same lines. N is a decimal number below 2^64, K at least 1.
+of scalbn; both sides of every refusal; for frexp and ilogb subnormal numbers of
+every length), then K drawn boundary cases. So each operation has at least K
+lines. No request comes twice. The same seed and count give the same lines. N is
+a decimal number below 2^64, K at least 1.
 
-  --flags     every name whose answer has flags: sqrt, fma, scalbn, floor and
-              trunc of 64, 32 and 16 bits, the first three under each attribute
-              too: for each a small grid, then K drawn cases from its kinds in
-              turn. Comments at the end name the kinds and count their lines.
+  --flags     every name whose answer has flags: sqrt, fma, scalbn, floor, trunc
+              and ceil of 64, 32 and 16 bits, the first three under each
+              attribute too: for each a small grid, then K drawn cases from its
+              kinds in turn. Comments at the end name the kinds and count their
+              lines.
               For sqrt, fma and scalbn at each width there are nine lines with
               the attribute as a number, four of them refused. OP is one name,
               as fma64, sqrt64.up or sqrt64.3, or sqrt64.A for all attributes.
@@ -105,8 +111,8 @@ give the same lines. N is a decimal number below 2^64, K at least 1.
               there.
   --requests  requests without answers; one may come twice, and none is kept
               in mind, so K may be any number: a million take a second or two
-  --all       all 65,536 patterns; OP is a name of sqrt16, floor16 or trunc16,
-              or sqrt16.A
+  --all       all 65,536 patterns; OP is a name of sqrt16, floor16, trunc16 or
+              ceil16, or sqrt16.A
 Exit status: 0, or 2 for bad usage.
 ";
 
@@ -120,9 +126,11 @@ call the C library in each place, for each name under even the search among the
 neighbours; at 16 bits the two ways to each answer alone. What answers flags
 gets K requests more, from its kinds in turn. Also checks the program's own
 division.
-Flags are left out where the C library is free: floor and trunc go by rint;
-where the processor judges tininess before rounding, underflow of a result that
-is the least normal number; 0 times infinity plus a quiet NaN.
+Flags are left out where the C library is free: floor, trunc and ceil go by
+rint; where the processor judges tininess before rounding, underflow of a result
+that is the least normal number; 0 times infinity plus a quiet NaN. So are the
+exponents that it is free in: ilogb's of zeros and NaNs, frexp's of infinities
+and NaNs.
 N is a decimal number below 2^64, K at least 1.
 Exit status: 0, or 1 for a disagreement, or 2 for bad usage.
 ";

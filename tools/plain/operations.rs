@@ -8,12 +8,17 @@ pub enum Task {
     Sqrt,
     Floor,
     Trunc,
+    Ceil,
     Scalbn,
     Fma,
     Fmod,
     Remquo,
     Reduce,
     List,
+    Modf,
+    Frexp,
+    Ilogb,
+    Nextafter,
 }
 
 /// What stands at one place of a line.
@@ -93,7 +98,9 @@ const fn operation(
 }
 
 /// Width 16 stands last: it has no function, and the record of cases leaves it out.
-pub static OPERATIONS: [Operation; 21] = [
+/// An operation's draws go by where it stands: behind the others a new one leaves
+/// what is recorded of them as it is.
+pub static OPERATIONS: [Operation; 32] = [
     operation("sqrt64", Task::Sqrt, WIDTH_64, "X -> R FLAGS"),
     operation("sqrt32", Task::Sqrt, WIDTH_32, "X -> R FLAGS"),
     operation("floor64", Task::Floor, WIDTH_64, "X -> R FLAGS"),
@@ -110,11 +117,22 @@ pub static OPERATIONS: [Operation; 21] = [
     operation("reduce64", Task::Reduce, WIDTH_64, "X SHIFT Y -> REFUSAL R"),
     operation("reduce32", Task::Reduce, WIDTH_32, "X SHIFT Y -> REFUSAL R"),
     operation("list64", Task::List, WIDTH_64, "OP INPUT OUTPUT -> REFUSAL OUTPUT"),
+    operation("ceil64", Task::Ceil, WIDTH_64, "X -> R FLAGS"),
+    operation("ceil32", Task::Ceil, WIDTH_32, "X -> R FLAGS"),
+    operation("modf64", Task::Modf, WIDTH_64, "X -> FRACTION WHOLE"),
+    operation("modf32", Task::Modf, WIDTH_32, "X -> FRACTION WHOLE"),
+    operation("frexp64", Task::Frexp, WIDTH_64, "X -> R EXPONENT"),
+    operation("frexp32", Task::Frexp, WIDTH_32, "X -> R EXPONENT"),
+    operation("ilogb64", Task::Ilogb, WIDTH_64, "X -> EXPONENT"),
+    operation("ilogb32", Task::Ilogb, WIDTH_32, "X -> EXPONENT"),
+    operation("nextafter64", Task::Nextafter, WIDTH_64, "X Y -> R"),
+    operation("nextafter32", Task::Nextafter, WIDTH_32, "X Y -> R"),
     operation("sqrt16", Task::Sqrt, WIDTH_16, "X -> R FLAGS"),
     operation("floor16", Task::Floor, WIDTH_16, "X -> R FLAGS"),
     operation("trunc16", Task::Trunc, WIDTH_16, "X -> R FLAGS"),
     operation("scalbn16", Task::Scalbn, WIDTH_16, "X N -> R FLAGS"),
     operation("fma16", Task::Fma, WIDTH_16, "X Y Z -> R FLAGS"),
+    operation("ceil16", Task::Ceil, WIDTH_16, "X -> R FLAGS"),
 ];
 
 pub fn find(name: &str) -> Option<&'static Operation> {
@@ -125,10 +143,11 @@ impl Operation {
     /// The kinds of the operands after the name.
     pub fn operand_kinds(&self) -> &'static [Kind] {
         match self.task {
-            Task::Sqrt | Task::Floor | Task::Trunc => &[Kind::Word],
+            Task::Sqrt | Task::Floor | Task::Trunc | Task::Ceil => &[Kind::Word],
+            Task::Modf | Task::Frexp | Task::Ilogb => &[Kind::Word],
             Task::Scalbn => &[Kind::Word, Kind::Signed],
             Task::Fma => &[Kind::Word, Kind::Word, Kind::Word],
-            Task::Fmod | Task::Remquo => &[Kind::Word, Kind::Word],
+            Task::Fmod | Task::Remquo | Task::Nextafter => &[Kind::Word, Kind::Word],
             Task::Reduce => &[Kind::Word, Kind::Unsigned, Kind::Word],
             Task::List => &[Kind::Unsigned, Kind::Words, Kind::Words],
         }
@@ -137,11 +156,12 @@ impl Operation {
     pub fn answer_kinds(&self) -> &'static [Kind] {
         match (self.form, self.task) {
             (Form::Attribute(_) | Form::Numbered, _) => &[Kind::Unsigned, Kind::Word, Kind::Flags],
-            (_, Task::Sqrt | Task::Floor | Task::Trunc | Task::Scalbn | Task::Fma) => {
-                &[Kind::Word, Kind::Flags]
-            }
-            (_, Task::Fmod) => &[Kind::Word],
-            (_, Task::Remquo) => &[Kind::Word, Kind::Signed],
+            (_, Task::Sqrt | Task::Scalbn | Task::Fma) => &[Kind::Word, Kind::Flags],
+            (_, Task::Floor | Task::Trunc | Task::Ceil) => &[Kind::Word, Kind::Flags],
+            (_, Task::Fmod | Task::Nextafter) => &[Kind::Word],
+            (_, Task::Remquo | Task::Frexp) => &[Kind::Word, Kind::Signed],
+            (_, Task::Modf) => &[Kind::Word, Kind::Word],
+            (_, Task::Ilogb) => &[Kind::Signed],
             (_, Task::Reduce) => &[Kind::Unsigned, Kind::Word],
             (_, Task::List) => &[Kind::Unsigned, Kind::Words],
         }

@@ -115,6 +115,6 @@ fn all_patterns(operation: Option<&str>) -> Result<Vec<Choice>, String> {
     };
     match found.iter().all(fits) {
         true => Ok(found),
-        false => Err(format!("--all takes sqrt16, floor16 or trunc16, not \"{name}\"")),
+        false => Err(format!("--all takes sqrt16, floor16, trunc16 or ceil16, not \"{name}\"")),
     }
 }

@@ -5,20 +5,25 @@ use crate::format::Format;
 use crate::operations::Flags;
 use std::cmp::Ordering;
 
-/// The greatest finite magnitude that is not above the value. Magnitudes are
-/// ordered as their patterns are, so halving the range of patterns finds it.
-/// `not_above` must hold for zero and, once it fails, fail from there on.
-fn greatest(format: Format, not_above: impl Fn(u64) -> bool) -> u64 {
-    let (mut low, mut high) = (0, format.infinity());
+/// The last number below the end for which it holds, found by halving. It must
+/// hold for zero and, once it fails, fail from there on.
+pub fn last_before(end: u64, holds: impl Fn(u64) -> bool) -> u64 {
+    let (mut low, mut high) = (0, end);
     while high - low > 1 {
         let middle = low + (high - low) / 2;
-        if not_above(middle) {
+        if holds(middle) {
             low = middle;
         } else {
             high = middle;
         }
     }
     low
+}
+
+/// The greatest finite magnitude that is not above the value: magnitudes are
+/// ordered as their patterns are.
+pub fn greatest(format: Format, not_above: impl Fn(u64) -> bool) -> u64 {
+    last_before(format.infinity(), not_above)
 }
 
 /// Of two neighbours, the one on the nearer side; the even one on a tie.

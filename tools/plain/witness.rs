@@ -53,6 +53,22 @@ fn same_quotient(judged: i32, other: i32) -> bool {
     same_low && (judged == 0 || other == 0 || (judged < 0) == (other < 0))
 }
 
+/// A quotient or an exponent, as far as C settles it: where a number has one.
+fn same_number(operation: &Operation, operands: &[Field], judged: &[Field], other: i32) -> bool {
+    let format = operation.format;
+    let (Some(Field::Word(x)), Some(Field::Signed(own))) = (operands.first(), judged.last()) else {
+        return false;
+    };
+    match operation.task {
+        Task::Remquo => {
+            let no_quotient = matches!(judged, [Field::Word(value), ..] if format.is_nan(*value));
+            no_quotient || same_quotient(*own, other)
+        }
+        Task::Frexp => !format.is_finite(*x) || *own == other,
+        _ => format.is_nan(*x) || format.is_zero(*x) || *own == other,
+    }
+}
+
 /// The reduction by doubling, one step for each binary digit of the shift.
 fn reduce_by_doubling(width: u32, x: u64, shift: u32, y: u64) -> (u32, u64) {
     let (x, y) = (x as u128, y as u128);
@@ -100,7 +116,7 @@ fn search_differs(operation: &Operation, operands: &[Field], judged: &[Field]) -
     (!same).then(|| write_fields(operation, &other))
 }
 
-/// Value, and quotient or flags, against the C library.
+/// Each field against the C library, of which all is told that it gave.
 fn library_differs(
     operation: &Operation,
     operands: &[Field],
@@ -108,24 +124,23 @@ fn library_differs(
     before: bool,
 ) -> Option<String> {
     let format = operation.format;
-    let (Some(given), [Field::Word(value), rest @ ..]) = (by_library(operation, operands), judged)
-    else {
+    let Some(given) = by_library(operation, operands) else {
         return Some("no second answer".to_string());
     };
-    let agreed = match rest {
-        // C leaves the quotient open where the value is a NaN.
-        [Field::Signed(own)] => format.is_nan(*value) || same_quotient(*own, given.quotient),
-        [Field::Flags(own)] => {
-            let settled = settled_flags(format, operands, *value, before);
+    let mut values = [given.value, given.whole].into_iter();
+    let same = judged.iter().all(|field| match field {
+        // C does not settle the bits of a NaN.
+        Field::Word(own) => values.next().is_some_and(|other| format.same_value(*own, other)),
+        Field::Signed(_) => same_number(operation, operands, judged, given.number),
+        Field::Flags(own) => {
+            let settled = settled_flags(format, operands, given.value, before);
             (own.0 ^ given.flags.0) & settled.0 == 0
         }
-        _ => true,
-    };
-    // Nor does C settle the bits of a NaN.
-    let same = agreed && format.same_value(*value, given.value);
-    let told = [Field::Word(given.value), Field::Flags(given.flags)];
-    let quotient = given.quotient;
-    (!same).then(|| format!("{} quotient {quotient}", write_fields(operation, &told)))
+        _ => false,
+    });
+    let Given { value, whole, number, flags } = given;
+    let told = [Field::Word(value), Field::Word(whole), Field::Signed(number), Field::Flags(flags)];
+    (!same).then(|| write_fields(operation, &told))
 }
 
 /// Nothing when both agree, else what the other side says.

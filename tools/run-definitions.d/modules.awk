@@ -32,7 +32,7 @@ END { if (module != "") close_module() }
 # what a line costs the checker, in ms or so; a module costs it 500 besides
 function weight() {
     if (!with_flags(form)) return (width == 64 ? 5 : 3) + 5 * afterCount
-    if (base == "floor" || base == "trunc") return width == 64 ? 5 : width == 32 ? 2 : 1
+    if (base == "floor" || base == "trunc" || base == "ceil") return width == 64 ? 5 : width == 32 ? 2 : 1
     return width == 64 ? 10 : width == 32 ? 4 : 2
 }
 
@@ -59,7 +59,7 @@ function open_module() {
     put("use Rattle.ieee.specs.Format.{b64, b32, b16}\n")
     put("use Rattle.ieee.specs.Flags.{flagWord}\n")
     put("use Rattle.ieee.specs.Sqrt.{sqrtOf, sqrtFlags}\n")
-    put("use Rattle.ieee.specs.Whole.{floorOf, floorFlags, truncOf, truncFlags}\n")
+    put("use Rattle.ieee.specs.Whole.{floorOf, floorFlags, truncOf, truncFlags, ceilOf, ceilFlags}\n")
     put("use Rattle.ieee.specs.Scalbn.{scalbnOf, scalbnFlags}\n")
     put("use Rattle.ieee.specs.Fma.{fmaOf, fmaFlags}\n")
     put("use Rattle.ieee.specs.Rounded.{Rounded, sqrtRounded, fmaRounded, scalbnRounded}\n")
@@ -67,7 +67,10 @@ function open_module() {
     put("use Rattle.ieee.specs.Remquo.{remquoOf, quotientOf}\n")
     put("use Rattle.ieee.specs.Refusal.{numberOf, valueOf}\n")
     put("use Rattle.ieee.specs.Reduction.{reduceOf}\n")
-    put("use Rattle.ieee.specs.Lists.{listOf}\n\n")
+    put("use Rattle.ieee.specs.Lists.{listOf}\n")
+    put("use Rattle.ieee.specs.Modf.{modfOf, modfWhole}\n")
+    put("use Rattle.ieee.specs.Frexp.{frexpOf, frexpExponent, ilogbOf}\n")
+    put("use Rattle.ieee.specs.Nextafter.{nextafterOf}\n\n")
     put_told()
     if (mode == "ask") put_shown()
     if (mode == "deny") put_same()
@@ -106,8 +109,8 @@ function put_same() {
 
 function put(text) { printf "%s", text > out }
 
-# the terms of a line, in term[], and what the line says of each, in said[]; how many there are
-function set_terms(    format) {
+# the terms of a line, in term[], and what the line says of each, in said[]; how many there are: most often one definition for each part of the answer
+function set_terms(    format, definition, kind, n, i) {
     format = " b" width
     if (with_flags(form)) return set_terms_with_flags(format)
     if (base == "reduce") {
@@ -115,14 +118,14 @@ function set_terms(    format) {
         term[2] = "valueOf (reduceOf " width hex(1) " " operand[2] hex(3) ")"; said[2] = "0x" answer[2]
         return 2
     }
-    if (base == "remquo") {
-        term[1] = "remquoOf" format hex(1) hex(2); said[1] = "0x" answer[1]
-        term[2] = "quotientOf" format hex(1) hex(2); said[2] = whole(answer[2])
-        if (mode == "ask") term[2] = "flat (" term[2] ")"
-        return 2
+    n = split(definitionsOf[form], definition, " ")
+    split(answersOf[form], kind, " ")
+    for (i = 1; i <= n; i++) {
+        term[i] = definition[i] format operand_terms()
+        said[i] = kind[i] == "signed" ? whole(answer[i]) : "0x" answer[i]
+        if (mode == "ask" && kind[i] == "signed") term[i] = "flat (" term[i] ")"
     }
-    term[1] = base "Of" format operand_terms(); said[1] = "0x" answer[1]
-    return 1
+    return n
 }
 
 # one term: the list of the parts of the answer

@@ -12,16 +12,22 @@ BEGIN {
     operation("sqrt", "word", "word flags", "X -> R FLAGS", "sqrtOf sqrtFlags")
     operation("floor", "word", "word flags", "X -> R FLAGS", "floorOf floorFlags")
     operation("trunc", "word", "word flags", "X -> R FLAGS", "truncOf truncFlags")
+    operation("ceil", "word", "word flags", "X -> R FLAGS", "ceilOf ceilFlags")
     operation("scalbn", "word signed", "word flags", "X N -> R FLAGS", "scalbnOf scalbnFlags")
     operation("fma", "word word word", "word flags", "X Y Z -> R FLAGS", "fmaOf fmaFlags")
     operation("fmod", "word word", "word", "X Y -> R", "fmodOf")
     operation("remquo", "word word", "word signed", "X Y -> R QUOTIENT", "remquoOf quotientOf")
     operation("reduce", "word unsigned word", "unsigned word", "X SHIFT Y -> REFUSAL R", "reduceOf")
     operation("list", "unsigned words words", "unsigned words", "OPERATION INPUT OUTPUT -> REFUSAL OUTPUT", "listOf")
+    operation("modf", "word", "word word", "X -> FRACTION WHOLE", "modfOf modfWhole")
+    operation("frexp", "word", "word signed", "X -> R EXPONENT", "frexpOf frexpExponent")
+    operation("ilogb", "word", "signed", "X -> EXPONENT", "ilogbOf")
+    operation("nextafter", "word word", "word", "X Y -> R", "nextafterOf")
     operation("sqrt.A", "word", "unsigned word flags", "X -> NUMBER R FLAGS", "sqrtRounded")
     operation("fma.A", "word word word", "unsigned word flags", "X Y Z -> NUMBER R FLAGS", "fmaRounded")
     operation("scalbn.A", "word signed", "unsigned word flags", "X N -> NUMBER R FLAGS", "scalbnRounded")
-    names = "sqrt64 sqrt32 floor64 floor32 trunc64 trunc32 scalbn64 scalbn32 fma64 fma32 fmod64 fmod32 remquo64 reduce64 reduce32 list64"
+    names = "sqrt64 sqrt32 floor64 floor32 trunc64 trunc32 ceil64 ceil32 scalbn64 scalbn32 fma64 fma32 fmod64 fmod32 remquo64 reduce64 reduce32 list64"
+    names = names " modf64 modf32 frexp64 frexp32 ilogb64 ilogb32 nextafter64 nextafter32"
     operationCount = split(names, operationAt, " ")
     for (i = 1; i <= operationCount; i++) known[operationAt[i]] = 1
     name_flagged()
@@ -34,8 +40,8 @@ BEGIN {
 function name_flagged(    i) {
     attributeCount = split("even zero down up away", attributeAt, " ")
     for (i = 1; i <= attributeCount; i++) numberOfAttribute[attributeAt[i]] = i - 1
-    narrowNames = "sqrt16 fma16 scalbn16 floor16 trunc16"
-    stemCount = split("sqrt64 sqrt32 sqrt16 fma64 fma32 fma16 scalbn64 scalbn32 scalbn16 floor64 floor32 floor16 trunc64 trunc32 trunc16", stemAt, " ")
+    narrowNames = "sqrt16 fma16 scalbn16 floor16 trunc16 ceil16"
+    stemCount = split("sqrt64 sqrt32 sqrt16 fma64 fma32 fma16 scalbn64 scalbn32 scalbn16 floor64 floor32 floor16 trunc64 trunc32 trunc16 ceil64 ceil32 ceil16", stemAt, " ")
     for (i = 1; i <= stemCount; i++) {
         known[stemAt[i]] = 1
         if (i <= 9) takesAttribute[stemAt[i]] = 1
