@@ -8,19 +8,22 @@ use Rattle.ieee.specs.Format.{b64, b32}
 use Rattle.ieee.specs.Flags.{Flags, flagWord}
 use Rattle.ieee.specs.Fma.{fmaOf, fmaFlags}
 use Rattle.ieee.specs.Fmod.{fmodOf}
+use Rattle.ieee.specs.Frexp.{frexpOf, frexpExponent, ilogbOf}
+use Rattle.ieee.specs.Modf.{modfOf, modfWhole}
+use Rattle.ieee.specs.Nextafter.{nextafterOf}
 use Rattle.ieee.specs.Reduction.{reduceOf}
 use Rattle.ieee.specs.Refusal.{numberOf, valueOf}
 use Rattle.ieee.specs.Remquo.{remquoOf, quotientOf}
 use Rattle.ieee.specs.Rounded.{Rounded, sqrtRounded, fmaRounded, scalbnRounded}
 use Rattle.ieee.specs.Scalbn.{scalbnOf, scalbnFlags}
 use Rattle.ieee.specs.Sqrt.{sqrtOf, sqrtFlags}
-use Rattle.ieee.specs.Whole.{truncOf, truncFlags, floorOf, floorFlags}
+use Rattle.ieee.specs.Whole.{truncOf, truncFlags, floorOf, floorFlags, ceilOf, ceilFlags}
 use Rattle.cmd_operations.specs.declared.line.Answers.{Answers}
 use Rattle.cmd_operations.specs.declared.request.Operands.{Operands}
 use Rattle.cmd_operations.specs.declared.table.Row.{Row}
 use Rattle.cmd_operations.specs.Naming.{bytesOf, Named, textOf, rowIn}
 
--- answers by their index, flags by their bits, and a signed number after a word
+-- answers by their index, flags by their bits; a signed number after a word, which is 0 where it has none before it
 abbrev pub three : ℕ → ℕ → ℕ → Answers
 three x y z = record { x = x; y = y; z = z; n = pos 0 }
 
@@ -68,6 +71,16 @@ operations =
     ∷ operation "sqrt32" "w-- wF-" (λ a. flagged (sqrtOf b32 (low (a .x))) (sqrtFlags b32 (low (a .x))))
     ∷ operation "fma64" "WWW WF-" (λ a. flagged (fmaOf b64 (a .x) (a .y) (a .z)) (fmaFlags b64 (a .x) (a .y) (a .z)))
     ∷ operation "fma32" "www wF-" (λ a. flagged (fmaOf b32 (low (a .x)) (low (a .y)) (low (a .z))) (fmaFlags b32 (low (a .x)) (low (a .y)) (low (a .z))))
+    ∷ operation "ceil64" "W-- WF-" (λ a. flagged (ceilOf b64 (a .x)) (ceilFlags b64 (a .x)))
+    ∷ operation "ceil32" "w-- wF-" (λ a. flagged (ceilOf b32 (low (a .x))) (ceilFlags b32 (low (a .x))))
+    ∷ operation "modf64" "W-- WW-" (λ a. two (modfOf b64 (a .x)) (modfWhole b64 (a .x)))
+    ∷ operation "modf32" "w-- ww-" (λ a. two (modfOf b32 (low (a .x))) (modfWhole b32 (low (a .x))))
+    ∷ operation "frexp64" "W-- WN-" (λ a. signed (frexpOf b64 (a .x)) (frexpExponent b64 (a .x)))
+    ∷ operation "frexp32" "w-- wN-" (λ a. signed (frexpOf b32 (low (a .x))) (frexpExponent b32 (low (a .x))))
+    ∷ operation "ilogb64" "W-- N--" (λ a. signed 0 (ilogbOf b64 (a .x)))
+    ∷ operation "ilogb32" "w-- N--" (λ a. signed 0 (ilogbOf b32 (low (a .x))))
+    ∷ operation "nextafter64" "WW- W--" (λ a. one (nextafterOf b64 (a .x) (a .y)))
+    ∷ operation "nextafter32" "ww- w--" (λ a. one (nextafterOf b32 (low (a .x)) (low (a .y))))
     ∷ operation "sqrt64." "W-- UWF" (λ a. rounded (sqrtRounded b64 (low (a .attribute)) (a .x)))
     ∷ operation "sqrt32." "w-- UwF" (λ a. rounded (sqrtRounded b32 (low (a .attribute)) (low (a .x))))
     ∷ operation "fma64." "WWW UWF" (λ a. rounded (fmaRounded b64 (low (a .attribute)) (a .x) (a .y) (a .z)))

@@ -10,7 +10,7 @@ use text_lines::find;
 use text_lines::part;
 use text_lines::write_bytes;
 
-const SIZE: usize = 335;
+const SIZE: usize = 499;
 
 // A row for each operation: its name, of any length, the kinds of up to three operands and of up to three answers. A name that ends in a dot is followed
 // by an attribute. An operation's number is that of its row, from 0 on.
@@ -31,6 +31,16 @@ sqrt64 W-- WF-
 sqrt32 w-- wF-
 fma64 WWW WF-
 fma32 www wF-
+ceil64 W-- WF-
+ceil32 w-- wF-
+modf64 W-- WW-
+modf32 w-- ww-
+frexp64 W-- WN-
+frexp32 w-- wN-
+ilogb64 W-- N--
+ilogb32 w-- N--
+nextafter64 WW- W--
+nextafter32 ww- w--
 sqrt64. W-- UWF
 sqrt32. w-- UwF
 fma64. WWW UWF
