@@ -95,6 +95,27 @@ static void remainders(double x, double y) {
     printf("remquo64 " P64 " " P64 " -> " P64 " %d\n", pk_pattern64(x), pk_pattern64(y), pk_pattern64(rest), quotient);
 }
 
+/* A number in two parts: one is the result, the other goes out through a pointer. */
+static void parts(double x) {
+    double whole, fraction = pk_modf(x, &whole);
+    printf("modf64 " P64 " -> " P64 " " P64 "\n", pk_pattern64(x), pk_pattern64(fraction), pk_pattern64(whole));
+    printf("# %g is %g and %g\n", x, whole, fraction);
+}
+
+static void power(double x) {
+    int exponent;
+    double fraction = pk_frexp(x, &exponent);
+    printf("frexp64 " P64 " -> " P64 " %d\n", pk_pattern64(x), pk_pattern64(fraction), exponent);
+    printf("# %g is %g times 2^%d\n", x, fraction, exponent);
+}
+
+/* Its exponent alone, and the next number up. */
+static void exponent_and_next(uint64_t x) {
+    uint64_t infinite = UINT64_C(0x7ff0000000000000);
+    printf("ilogb64 " P64 " -> %" PRId32 "\n", x, pk_ilogb64(x));
+    printf("nextafter64 " P64 " " P64 " -> " P64 "\n", x, infinite, pk_nextafter64(x, infinite));
+}
+
 /* The reduction may be refused. The value is then 0, and the number says why. */
 static void reduction(uint64_t x, uint32_t e, uint64_t y) {
     uint64_t value;
@@ -119,6 +140,9 @@ int main(void) {
     rounded_once();
     band(2.0);
     remainders(-7.0, 2.0);
+    parts(-2.5);
+    power(8.0);
+    exponent_and_next(pk_pattern64(1.0));
     reduction(1, 4096, 7);
     reduction(1, 4097, 3);
     list();

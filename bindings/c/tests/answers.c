@@ -16,8 +16,10 @@
 #define FIELDS 5
 
 /* Those that take an attribute come first. */
-static const char *const names[] = {"sqrt64", "sqrt32", "scalbn64", "scalbn32", "fma64", "fma32", "floor64", "floor32",
-                                    "trunc64", "trunc32", "fmod64", "fmod32", "remquo64", "reduce64", "reduce32", "list64"};
+static const char *const names[] = {
+    "sqrt64", "sqrt32", "scalbn64", "scalbn32", "fma64", "fma32", "floor64", "floor32", "trunc64", "trunc32", "ceil64",
+    "ceil32", "modf64", "modf32", "frexp64", "frexp32", "ilogb64", "ilogb32", "nextafter64", "nextafter32", "fmod64",
+    "fmod32", "remquo64", "reduce64", "reduce32", "list64"};
 #define NAMES (sizeof names / sizeof names[0])
 #define ROUNDED 6
 /* What may stand behind a name: an attribute, nothing, or the number of no attribute. */
@@ -51,7 +53,9 @@ static void add_flags(uint32_t raised) {
 
 /* What the last call with flags raised. Before each request all bits are set, so that what a call leaves of them shows. */
 static uint32_t raised;
-static int32_t quotient;
+/* What it wrote besides: a quotient or an exponent, which functions on numbers have as an int; a value or a whole part. */
+static int32_t integer;
+static int plain_int;
 static uint64_t value64;
 static uint32_t value32;
 static double number64;
@@ -70,7 +74,11 @@ static void flags32(uint32_t alone, uint32_t value) {
     add_flags(raised);
     if (alone != value) strcat(said, ", and another value alone");
 }
-static void give_quotient(uint64_t value, int32_t n) { sprintf(said, "%016" PRIx64 " %" PRId32, value, n); }
+static void give_integer(int32_t value) { sprintf(said, "%" PRId32, value); }
+static void with_integer64(uint64_t value) { sprintf(said, "%016" PRIx64 " %" PRId32, value, integer); }
+static void with_integer32(uint32_t value) { sprintf(said, "%08" PRIx32 " %" PRId32, value, integer); }
+static void with_value64(uint64_t value) { sprintf(said, "%016" PRIx64 " %016" PRIx64, value, value64); }
+static void with_value32(uint32_t value) { sprintf(said, "%08" PRIx32 " %08" PRIx32, value, value32); }
 static void refusal64(uint32_t refusal) { sprintf(said, "%" PRIu32 " %016" PRIx64, refusal, value64); }
 static void refusal32(uint32_t refusal) { sprintf(said, "%" PRIu32 " %08" PRIx32, refusal, value32); }
 static void rounded64(uint32_t refusal) { refusal64(refusal), add_flags(raised); }
@@ -120,16 +128,23 @@ static void on_patterns(void) {
     if (is("floor32", 1)) flags32(pk_floor32(w(1)), pk_floor32_flags(w(1), &raised));
     if (is("trunc64", 1)) flags64(pk_trunc64(W(1)), pk_trunc64_flags(W(1), &raised));
     if (is("trunc32", 1)) flags32(pk_trunc32(w(1)), pk_trunc32_flags(w(1), &raised));
+    if (is("ceil64", 1)) flags64(pk_ceil64(W(1)), pk_ceil64_flags(W(1), &raised));
+    if (is("ceil32", 1)) flags32(pk_ceil32(w(1)), pk_ceil32_flags(w(1), &raised));
+    if (is("modf64", 1)) with_value64(pk_modf64(W(1), &value64));
+    if (is("modf32", 1)) with_value32(pk_modf32(w(1), &value32));
+    if (is("frexp64", 1)) with_integer64(pk_frexp64(W(1), &integer));
+    if (is("frexp32", 1)) with_integer32(pk_frexp32(w(1), &integer));
+    if (is("ilogb64", 1)) give_integer(pk_ilogb64(W(1)));
+    if (is("ilogb32", 1)) give_integer(pk_ilogb32(w(1)));
+    if (is("nextafter64", 2)) give64(pk_nextafter64(W(1), W(2)));
+    if (is("nextafter32", 2)) give32(pk_nextafter32(w(1), w(2)));
     if (is("scalbn64", 2)) flags64(pk_scalbn64(W(1), n(2)), pk_scalbn64_flags(W(1), n(2), &raised));
     if (is("scalbn32", 2)) flags32(pk_scalbn32(w(1), n(2)), pk_scalbn32_flags(w(1), n(2), &raised));
     if (is("fma64", 3)) flags64(pk_fma64(W(1), W(2), W(3)), pk_fma64_flags(W(1), W(2), W(3), &raised));
     if (is("fma32", 3)) flags32(pk_fma32(w(1), w(2), w(3)), pk_fma32_flags(w(1), w(2), w(3), &raised));
     if (is("fmod64", 2)) give64(pk_fmod64(W(1), W(2)));
     if (is("fmod32", 2)) give32(pk_fmod32(w(1), w(2)));
-    if (is("remquo64", 2)) {
-        uint64_t value = pk_remquo64(W(1), W(2), &quotient);
-        give_quotient(value, quotient);
-    }
+    if (is("remquo64", 2)) with_integer64(pk_remquo64(W(1), W(2), &integer));
     if (is("reduce64", 3)) refusal64(pk_reduce64(W(1), u(2), W(3), &value64));
     if (is("reduce32", 3)) refusal32(pk_reduce32(w(1), u(2), w(3), &value32));
     if (is("list64", 3)) list(u(1), field[2], field[3]);
@@ -146,26 +161,36 @@ static uint64_t P(double x) { return pk_pattern64(x); }
 static uint32_t p(float x) { return pk_pattern32(x); }
 static void double_rounded(uint32_t refusal) { value64 = P(number64), rounded64(refusal); }
 static void float_rounded(uint32_t refusal) { value32 = p(number32), rounded32(refusal); }
+static void double_with_integer(double value) { integer = plain_int, with_integer64(P(value)); }
+static void float_with_integer(float value) { integer = plain_int, with_integer32(p(value)); }
+static void double_with_double(double value) { value64 = P(number64), with_value64(P(value)); }
+static void float_with_float(float value) { value32 = p(number32), with_value32(p(value)); }
 
 /* The same on numbers, where there is such a function. */
 static void on_numbers(void) {
-    int q = INT32_MIN;
     if (is("sqrt64", 1)) flags64(P(pk_sqrt(D(1))), P(pk_sqrt_flags(D(1), &raised)));
     if (is("sqrt32", 1)) flags32(p(pk_sqrtf(d(1))), p(pk_sqrtf_flags(d(1), &raised)));
     if (is("floor64", 1)) flags64(P(pk_floor(D(1))), P(pk_floor_flags(D(1), &raised)));
     if (is("floor32", 1)) flags32(p(pk_floorf(d(1))), p(pk_floorf_flags(d(1), &raised)));
     if (is("trunc64", 1)) flags64(P(pk_trunc(D(1))), P(pk_trunc_flags(D(1), &raised)));
     if (is("trunc32", 1)) flags32(p(pk_truncf(d(1))), p(pk_truncf_flags(d(1), &raised)));
+    if (is("ceil64", 1)) flags64(P(pk_ceil(D(1))), P(pk_ceil_flags(D(1), &raised)));
+    if (is("ceil32", 1)) flags32(p(pk_ceilf(d(1))), p(pk_ceilf_flags(d(1), &raised)));
+    if (is("modf64", 1)) double_with_double(pk_modf(D(1), &number64));
+    if (is("modf32", 1)) float_with_float(pk_modff(d(1), &number32));
+    if (is("frexp64", 1)) double_with_integer(pk_frexp(D(1), &plain_int));
+    if (is("frexp32", 1)) float_with_integer(pk_frexpf(d(1), &plain_int));
+    if (is("ilogb64", 1)) give_integer(pk_ilogb(D(1)));
+    if (is("ilogb32", 1)) give_integer(pk_ilogbf(d(1)));
+    if (is("nextafter64", 2)) give64(P(pk_nextafter(D(1), D(2))));
+    if (is("nextafter32", 2)) give32(p(pk_nextafterf(d(1), d(2))));
     if (is("scalbn64", 2)) flags64(P(pk_scalbn(D(1), n(2))), P(pk_scalbn_flags(D(1), n(2), &raised)));
     if (is("scalbn32", 2)) flags32(p(pk_scalbnf(d(1), n(2))), p(pk_scalbnf_flags(d(1), n(2), &raised)));
     if (is("fma64", 3)) flags64(P(pk_fma(D(1), D(2), D(3))), P(pk_fma_flags(D(1), D(2), D(3), &raised)));
     if (is("fma32", 3)) flags32(p(pk_fmaf(d(1), d(2), d(3))), p(pk_fmaf_flags(d(1), d(2), d(3), &raised)));
     if (is("fmod64", 2)) give64(P(pk_fmod(D(1), D(2))));
     if (is("fmod32", 2)) give32(p(pk_fmodf(d(1), d(2))));
-    if (is("remquo64", 2)) {
-        double value = pk_remquo(D(1), D(2), &q);
-        give_quotient(P(value), q);
-    }
+    if (is("remquo64", 2)) double_with_integer(pk_remquo(D(1), D(2), &plain_int));
     if (under("sqrt64", 1)) double_rounded(pk_sqrt_rounded(attribute, D(1), &number64, &raised));
     if (under("sqrt32", 1)) float_rounded(pk_sqrtf_rounded(attribute, d(1), &number32, &raised));
     if (under("scalbn64", 2)) double_rounded(pk_scalbn_rounded(attribute, D(1), n(2), &number64, &raised));
@@ -176,7 +201,7 @@ static void on_numbers(void) {
 
 /* ---- a claim, under one rounding mode and under all */
 static int holds(void (*answer)(void), const char *wanted, int mode) {
-    raised = UINT32_MAX, quotient = INT32_MIN, value64 = UINT64_MAX, value32 = UINT32_MAX;
+    raised = UINT32_MAX, integer = plain_int = INT32_MIN, value64 = UINT64_MAX, value32 = UINT32_MAX;
     number64 = pk_number64(value64), number32 = pk_number32(value32);
     if (fesetround(mode) != 0) return 0;
     feclearexcept(FE_ALL_EXCEPT);

@@ -182,6 +182,10 @@ static void numbers(void) {
     expect(PK_LIST_LIMIT == 8192 && PK_SHIFT_LIMIT == 4096, "the limits of places and of the shift");
     expect(PK_DIVISOR_LIMIT64 == (UINT64_C(1) << 62) - 1, "the limit of the divisor at 64");
     expect(PK_DIVISOR_LIMIT32 == (UINT32_C(1) << 30) - 1, "the limit of the divisor at 32");
+    expect(PK_ILOGB_ZERO == INT32_MIN && PK_ILOGB_NAN == INT32_MIN && PK_ILOGB_INFINITY == INT32_MAX, "ilogb's own numbers");
+    expect(pk_ilogb64(0) == PK_ILOGB_ZERO && pk_ilogb32(0) == PK_ILOGB_ZERO, "ilogb of zero");
+    expect(pk_ilogb64(PK_NAN64) == PK_ILOGB_NAN && pk_ilogb32(PK_NAN32) == PK_ILOGB_NAN, "ilogb of the canonical NaN");
+    expect(pk_ilogb64(INFINITE) == PK_ILOGB_INFINITY && pk_ilogb32(UINT32_C(0xff800000)) == PK_ILOGB_INFINITY, "ilogb of infinities");
     expect(pk_fmod64(0, 0) == PK_NAN64 && PK_NAN64 == UINT64_C(0x7ff8000000000000), "the canonical NaN at 64");
     expect(pk_fmod32(0, 0) == PK_NAN32 && PK_NAN32 == UINT32_C(0x7fc00000), "the canonical NaN at 32");
 }

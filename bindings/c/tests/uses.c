@@ -49,6 +49,24 @@ static void arguments_are_evaluated_once(void) {
     (void)pk_scalbn(number(), whole()), (void)pk_scalbnf(small_number(), whole()), once("a number and a whole number", 4);
 }
 
+static void arguments_of_parts_are_evaluated_once(void) {
+    uint64_t rest;
+    uint32_t small_rest;
+    int32_t exponent;
+    double integral;
+    float small_integral;
+    int n;
+    evaluated = 0;
+    (void)pk_ceil64(wide()), (void)pk_modf64(wide(), &rest), (void)pk_frexp64(wide(), &exponent), once("a pattern of 64 bits", 3);
+    (void)pk_ceil32(small()), (void)pk_modf32(small(), &small_rest), (void)pk_frexp32(small(), &exponent);
+    (void)pk_ilogb64(wide()), (void)pk_ilogb32(small()), once("and of 32, and an exponent of either", 5);
+    (void)pk_nextafter64(wide(), wide()), (void)pk_nextafter32(small(), small()), once("a pattern and where it goes", 4);
+    (void)pk_modf(number(), &integral), (void)pk_modff(small_number(), &small_integral), once("a number in two parts", 2);
+    (void)pk_frexp(number(), &n), (void)pk_frexpf(small_number(), &n), once("a number and its exponent", 2);
+    (void)pk_ilogb(number()), (void)pk_ilogbf(small_number()), once("the exponent alone", 2);
+    (void)pk_nextafter(number(), number()), (void)pk_nextafterf(small_number(), small_number()), once("next numbers", 4);
+}
+
 static void arguments_under_an_attribute_are_evaluated_once(void) {
     uint64_t value;
     uint32_t flags, small_value;
@@ -96,17 +114,20 @@ static void narrower_arguments_are_taken(void) {
     expect(pk_trunc64(small_two) == 0 && pk_floor64_flags(byte, &flags) == 0 && flags == PK_INEXACT, "32 bits for 64");
     expect(pk_scalbn64(pk_pattern64(1.5), few) == 1 && pk_scalbn(1.5, few) > 0, "a short");
     expect(pk_reduce64(1, 4096, byte, &value) == PK_DONE && value == 2, "a byte");
-    expect(pk_sqrt(4.0f) == 2.0 && pk_fma(2.0f, 3.0, 1.0f) == 7.0, "floats for doubles");
+    expect(pk_ilogb64(byte) == -1072 && pk_nextafter64(byte, 0) == 6, "a byte as a pattern");
+    expect(pk_sqrt(4.0f) == 2.0 && pk_fma(2.0f, 3.0, 1.0f) == 7.0 && pk_ilogb(8.0f) == 3, "floats for doubles");
 }
 
 /* ---- names without their arguments, in a table and alone */
 static void names_are_functions(void) {
     uint64_t (*const table[3])(uint64_t) = {pk_sqrt64, &pk_floor64, pk_trunc64};
     uint32_t (*flagged)(uint32_t, uint32_t *) = pk_sqrt32_flags, flags = 0;
-    double (*root)(double) = pk_sqrt;
+    double (*root)(double) = pk_sqrt, (*parts)(double, double *) = pk_modf, rest;
+    int (*exponent)(double) = pk_ilogb;
     expect(table[0](pk_pattern64(2.0)) == ROOT_OF_TWO && table[1](1) == 0 && table[2](1) == 0, "a table");
     expect(flagged(pk_pattern32(2.0f), &flags) == SMALL_ROOT_OF_TWO && flags == PK_INEXACT, "a pointer");
     expect(root(4.0) == 2.0 && (pk_sqrt64)(pk_pattern64(2.0)) == ROOT_OF_TWO, "a name in parentheses");
+    expect(parts(2.5, &rest) == 0.5 && rest == 2.0 && exponent(0.75) == -1, "pointers to what takes numbers apart");
 }
 
 /* ---- flags are overwritten, joined by the caller, and written in their place alone */
@@ -122,6 +143,28 @@ static void flags_have_their_place(void) {
     (void)pk_sqrt64_flags(pk_pattern64(-1.0), &flags[1]), all |= flags[1];
     expect(flags[1] == PK_INVALID && all == (PK_INVALID | PK_OVERFLOW | PK_UNDERFLOW | PK_INEXACT), "all that were raised");
     expect(flags[0] == 7 && flags[2] == 7, "the places beside");
+}
+
+/* ---- a second part is written in its place alone */
+static void second_parts_have_their_place(void) {
+    uint64_t rests[3] = {7, 7, 7};
+    uint32_t small_rests[3] = {7, 7, 7};
+    int32_t exponents[3] = {7, 7, 7};
+    double numbers[3] = {7.0, 7.0, 7.0};
+    float small_numbers[3] = {7.0f, 7.0f, 7.0f};
+    int plain[3] = {7, 7, 7};
+    expect(pk_modf64(pk_pattern64(2.5), &rests[1]) == pk_pattern64(0.5) && rests[1] == pk_pattern64(2.0), "modf at 64");
+    expect(pk_modf32(pk_pattern32(2.5f), &small_rests[1]) == pk_pattern32(0.5f), "modf at 32");
+    expect(small_rests[1] == pk_pattern32(2.0f) && rests[0] == 7 && rests[2] == 7, "its whole part");
+    expect(small_rests[0] == 7 && small_rests[2] == 7, "the places beside the whole parts");
+    expect(pk_frexp64(pk_pattern64(6.0), &exponents[1]) == pk_pattern64(0.75) && exponents[1] == 3, "frexp at 64");
+    expect(pk_frexp32(pk_pattern32(5.0f), &exponents[1]) == pk_pattern32(0.625f) && exponents[1] == 3, "frexp at 32");
+    expect(exponents[0] == 7 && exponents[2] == 7, "the places beside the exponents");
+    expect(pk_modf(-2.5, &numbers[1]) == -0.5 && numbers[1] == -2.0, "modf of a double");
+    expect(pk_modff(-2.5f, &small_numbers[1]) == -0.5f && small_numbers[1] == -2.0f, "modf of a float");
+    expect(numbers[0] == 7.0 && numbers[2] == 7.0 && small_numbers[0] == 7.0f && small_numbers[2] == 7.0f, "beside those");
+    expect(pk_frexp(0.375, &plain[1]) == 0.75 && plain[1] == -1, "frexp of a double");
+    expect(pk_frexpf(1.0f, &plain[1]) == 0.5f && plain[1] == 1 && plain[0] == 7 && plain[2] == 7, "frexp of a float");
 }
 
 /* ---- attributes: by a name of the header, in a variable of its type, as a narrower integer, and through a pointer */
@@ -143,11 +186,13 @@ static void attributes_are_taken(void) {
 
 int main(void) {
     arguments_are_evaluated_once();
+    arguments_of_parts_are_evaluated_once();
     arguments_under_an_attribute_are_evaluated_once();
     side_effects_happen_once();
     narrower_arguments_are_taken();
     names_are_functions();
     flags_have_their_place();
+    second_parts_have_their_place();
     attributes_are_taken();
     printf("%d checks of uses, %d failed\n", checks, failures);
     return failures != 0;

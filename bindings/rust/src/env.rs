@@ -34,7 +34,7 @@ pub struct Flags {
     /// The answer is inexact and the value is tiny: rounded with no bound on the exponent, it would
     /// lie below the least normal number in magnitude and not be zero. It comes with `inexact`.
     pub underflow: bool,
-    /// The answer is not the exact value; of floor and trunc, it is not the finite operand.
+    /// The answer is not the exact value; of floor, trunc and ceil, it is not the finite operand.
     pub inexact: bool,
 }
 

@@ -1,12 +1,13 @@
 //! Floating-point arithmetic on bit patterns, computed in whole numbers alone.
 //!
-//! Seven operations: [`sqrt64`], [`fma64`], [`fmod64`], [`remquo64`], [`scalbn64`], [`floor64`] and
-//! [`trunc64`], and the same at 32 bits but for remquo; with them [`list64`], which does one
-//! operation on a list, and [`reduce64`], a reduction of whole numbers. [`sqrt64_flags`] and the like,
-//! of sqrt, fma, scalbn, floor and trunc, give the [`Flags`] besides; [`sqrt64_rounded`] and the like,
-//! of sqrt, fma and scalbn, round under an [`Attribute`] of IEEE 754. Each is proved, in the
-//! archive that this crate links, to give the answer described here for every input; the
-//! repository's `docs/TRUST.md` says what that rests on, and what is tested and not proved.
+//! Twelve operations: [`sqrt64`], [`fma64`], [`fmod64`], [`remquo64`], [`scalbn64`], [`floor64`],
+//! [`trunc64`], [`ceil64`], [`modf64`], [`frexp64`], [`ilogb64`] and [`nextafter64`], and the same at
+//! 32 bits but for remquo; with them [`list64`], which does one operation on a list, and
+//! [`reduce64`], a reduction of whole numbers. [`sqrt64_flags`] and the like, of sqrt, fma, scalbn,
+//! floor, trunc and ceil, give the [`Flags`] besides; [`sqrt64_rounded`] and the like, of sqrt, fma
+//! and scalbn, round under an [`Attribute`] of IEEE 754. Each is proved, in the archive that this
+//! crate links, to give the answer described here for every input; the repository's `docs/TRUST.md`
+//! says what that rests on, and what is tested and not proved.
 //!
 //! A *pattern* is the bits of a number, as `f64::to_bits` and `f32::to_bits` give them. What a
 //! function gives depends on its arguments alone. No call can fail, none asks anything of its
@@ -46,12 +47,17 @@
 #![no_std]
 
 mod attribute;
+mod ceil;
 mod env;
 mod floor;
 mod fma;
 mod fmod;
+mod frexp;
+mod ilogb;
 mod list;
+mod modf;
 mod modular;
+mod nextafter;
 mod raw;
 mod refusal;
 mod remquo;
@@ -60,6 +66,7 @@ mod sqrt;
 mod trunc;
 
 pub use attribute::Attribute;
+pub use ceil::{ceil, ceil32, ceil32_flags, ceil64, ceil64_flags, ceil_flags, ceilf, ceilf_flags};
 pub use env::{Flags, NAN32, NAN64};
 pub use floor::{
     floor, floor32, floor32_flags, floor64, floor64_flags, floor_flags, floorf, floorf_flags,
@@ -69,8 +76,12 @@ pub use fma::{
     fma_rounded, fmaf, fmaf_flags, fmaf_rounded,
 };
 pub use fmod::{fmod, fmod32, fmod64, fmodf};
+pub use frexp::{frexp, frexp32, frexp64, frexpf};
+pub use ilogb::{ilogb, ilogb32, ilogb64, ilogbf, ILOGB_INFINITY, ILOGB_NAN, ILOGB_ZERO};
 pub use list::{list64, list64_by_number, ListOperation, LIST_LIMIT};
+pub use modf::{modf, modf32, modf64, modff};
 pub use modular::{reduce32, reduce64, DIVISOR_LIMIT32, DIVISOR_LIMIT64, SHIFT_LIMIT};
+pub use nextafter::{nextafter, nextafter32, nextafter64, nextafterf};
 pub use refusal::Refusal;
 pub use remquo::{remquo, remquo64};
 pub use scalbn::{

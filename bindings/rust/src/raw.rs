@@ -33,6 +33,12 @@ unsafe extern "C" {
     pub(crate) safe fn pk_trunc32(x: u32) -> u32;
     pub(crate) safe fn pk_trunc64_flags(x: u64, flags: &mut u32) -> u64;
     pub(crate) safe fn pk_trunc32_flags(x: u32, flags: &mut u32) -> u32;
+    pub(crate) safe fn pk_ceil64(x: u64) -> u64;
+    pub(crate) safe fn pk_ceil32(x: u32) -> u32;
+    pub(crate) safe fn pk_ceil64_flags(x: u64, flags: &mut u32) -> u64;
+    pub(crate) safe fn pk_ceil32_flags(x: u32, flags: &mut u32) -> u32;
+    pub(crate) safe fn pk_modf64(x: u64, whole: &mut u64) -> u64;
+    pub(crate) safe fn pk_modf32(x: u32, whole: &mut u32) -> u32;
     pub(crate) safe fn pk_fma64(x: u64, y: u64, z: u64) -> u64;
     pub(crate) safe fn pk_fma32(x: u32, y: u32, z: u32) -> u32;
     pub(crate) safe fn pk_fma64_flags(x: u64, y: u64, z: u64, flags: &mut u32) -> u64;
@@ -71,6 +77,12 @@ unsafe extern "C" {
         value: &mut u32,
         flags: &mut u32,
     ) -> u32;
+    pub(crate) safe fn pk_frexp64(x: u64, exponent: &mut i32) -> u64;
+    pub(crate) safe fn pk_frexp32(x: u32, exponent: &mut i32) -> u32;
+    pub(crate) safe fn pk_ilogb64(x: u64) -> i32;
+    pub(crate) safe fn pk_ilogb32(x: u32) -> i32;
+    pub(crate) safe fn pk_nextafter64(x: u64, y: u64) -> u64;
+    pub(crate) safe fn pk_nextafter32(x: u32, y: u32) -> u32;
     pub(crate) safe fn pk_fmod64(x: u64, y: u64) -> u64;
     pub(crate) safe fn pk_fmod32(x: u32, y: u32) -> u32;
     pub(crate) safe fn pk_remquo64(x: u64, y: u64, quotient: &mut i32) -> u64;

@@ -7,6 +7,7 @@ use paskerotim::*;
 
 use crate::attributes;
 use crate::claims::{self, list_text, Claim, Operands};
+use crate::parts;
 
 pub fn hex<T: LowerHex>(word: T) -> String {
     format!("{word:0digits$x}", digits = 2 * size_of::<T>())
@@ -60,6 +61,8 @@ fn on_patterns(operation: &str, o: &Operands) -> String {
         "floor32" => with_flags(floor32(o.word32(0)), floor32_flags(o.word32(0))),
         "trunc64" => with_flags(trunc64(o.word64(0)), trunc64_flags(o.word64(0))),
         "trunc32" => with_flags(trunc32(o.word32(0)), trunc32_flags(o.word32(0))),
+        "ceil64" => with_flags(ceil64(o.word64(0)), ceil64_flags(o.word64(0))),
+        "ceil32" => with_flags(ceil32(o.word32(0)), ceil32_flags(o.word32(0))),
         "scalbn64" => with_flags(
             scalbn64(o.word64(0), o.signed(1)),
             scalbn64_flags(o.word64(0), o.signed(1)),
@@ -85,7 +88,7 @@ fn on_patterns(operation: &str, o: &Operands) -> String {
         "reduce64" => reduced(reduce64(o.word64(0), o.unsigned(1), o.word64(2))),
         "reduce32" => reduced(reduce32(o.word32(0), o.unsigned(1), o.word32(2))),
         "list64" => listed(o.unsigned(0), &o.list(1), o.list(2)),
-        other => panic!("no operation {other}"),
+        other => parts::on_patterns(other, o),
     }
 }
 
@@ -106,6 +109,8 @@ fn on_numbers(operation: &str, o: &Operands) -> Option<String> {
         "floor32" => singles(floorf(single(0)), floorf_flags(single(0))),
         "trunc64" => doubles(trunc(double(0)), trunc_flags(double(0))),
         "trunc32" => singles(truncf(single(0)), truncf_flags(single(0))),
+        "ceil64" => doubles(ceil(double(0)), ceil_flags(double(0))),
+        "ceil32" => singles(ceilf(single(0)), ceilf_flags(single(0))),
         "scalbn64" => doubles(
             scalbn(double(0), o.signed(1)),
             scalbn_flags(double(0), o.signed(1)),
@@ -128,7 +133,7 @@ fn on_numbers(operation: &str, o: &Operands) -> Option<String> {
             let (value, quotient) = remquo(double(0), double(1));
             format!("{} {quotient}", hex(value.to_bits()))
         }
-        _ => return None,
+        other => return parts::on_numbers(other, o),
     })
 }
 
@@ -200,7 +205,7 @@ fn the_recorded_cases_hold() {
     for claim in &claims {
         *counts.entry(claim.operation.as_str()).or_insert(0) += 1;
     }
-    assert_eq!(counts.len(), 16);
+    assert_eq!(counts.len(), 26);
     assert!(counts.values().all(|count| *count >= 200), "{counts:?}");
     all_hold_in_two_threads(&claims);
     println!(
@@ -225,7 +230,7 @@ fn the_cases_of_flags_hold() {
             .or_insert(String::new());
         all.push_str(flags);
     }
-    assert_eq!(found.len(), 10 + 6 * claims::ATTRIBUTES.len());
+    assert_eq!(found.len(), 12 + 6 * claims::ATTRIBUTES.len());
     for ((operation, attribute), all) in found {
         let rounds = operation.starts_with("fma") || operation.starts_with("scalbn");
         for (flag, raised) in [

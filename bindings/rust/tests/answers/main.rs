@@ -5,4 +5,5 @@ mod claims;
 mod flags;
 mod known;
 mod nans;
+mod parts;
 mod refusals;

@@ -45,20 +45,30 @@ fn of_one_operand() {
         assert_eq!(sqrt64_flags(nan), wanted);
         assert_eq!(floor64_flags(nan), wanted);
         assert_eq!(trunc64_flags(nan), wanted);
+        assert_eq!(ceil64_flags(nan), wanted);
         assert_eq!(scalbn64_flags(nan, 7), wanted);
+        assert_eq!(modf64(nan), (NAN64, NAN64));
+        assert_eq!(frexp64(nan), (NAN64, 0));
+        assert_eq!(ilogb64(nan), ILOGB_NAN);
         let number = f64::from_bits(nan);
         assert_eq!(floor(number).to_bits(), NAN64);
         assert_eq!(trunc(number).to_bits(), NAN64);
+        assert_eq!(ceil(number).to_bits(), NAN64);
     }
     for (nan, signals) in NANS32 {
         let wanted = canonical(NAN32, signals);
         assert_eq!(sqrt32_flags(nan), wanted);
         assert_eq!(floor32_flags(nan), wanted);
         assert_eq!(trunc32_flags(nan), wanted);
+        assert_eq!(ceil32_flags(nan), wanted);
         assert_eq!(scalbn32_flags(nan, 7), wanted);
+        assert_eq!(modf32(nan), (NAN32, NAN32));
+        assert_eq!(frexp32(nan), (NAN32, 0));
+        assert_eq!(ilogb32(nan), ILOGB_NAN);
         let number = f32::from_bits(nan);
         assert_eq!(floorf(number).to_bits(), NAN32);
         assert_eq!(truncf(number).to_bits(), NAN32);
+        assert_eq!(ceilf(number).to_bits(), NAN32);
     }
 }
 
@@ -69,6 +79,7 @@ fn of_several_operands() {
             assert_eq!(fma64_flags(x, y, ONE64), canonical(NAN64, signals));
             assert_eq!(fma64_flags(ONE64, x, y), canonical(NAN64, signals));
             assert_eq!(fmod64(x, y), NAN64);
+            assert_eq!(nextafter64(x, y), NAN64);
             assert_eq!(remquo64(x, y), (NAN64, 0));
         }
     }
@@ -77,6 +88,7 @@ fn of_several_operands() {
             assert_eq!(fma32_flags(x, y, ONE32), canonical(NAN32, signals));
             assert_eq!(fma32_flags(ONE32, x, y), canonical(NAN32, signals));
             assert_eq!(fmod32(x, y), NAN32);
+            assert_eq!(nextafter32(x, y), NAN32);
         }
     }
 }
