@@ -4,8 +4,8 @@
 
 use crate::attribute_numbers::NUMBERS;
 use crate::forms::forms;
-use crate::operations::Form;
-use crate::places::all_places;
+use crate::operations::{self, Form};
+use crate::places::{places_of_values, places_with_flags};
 use crate::record::Record;
 use crate::rounded_places::{BELOW_ZERO, names_of_answers, names_of_places};
 use std::collections::{BTreeMap, BTreeSet};
@@ -37,7 +37,9 @@ pub fn plain(records: &[Record]) -> String {
     text += &by_name("explained, by entry of docs/DIFFERENCES.md", &entries, &whole, records, |run| {
         &run.explained
     });
-    text += &places("operands, by where the exact answer lies", &all_places(), &without(&whole), records);
+    let (flagged, others) = by_flags(&whole);
+    text += &places("operands, by where the exact answer lies", &places_with_flags(), &flagged, records);
+    text += &places("operands of what has no flags, by where they lie", &places_of_values(), &others, records);
     text + &under_attributes(&names, records)
 }
 
@@ -60,8 +62,11 @@ fn under_attributes(names: &[&str], records: &[Record]) -> String {
 /// What stands above a column, and the operation whose counts it has.
 type Column<'a> = (&'a str, &'a str);
 
-fn without<'a>(columns: &[Column<'a>]) -> Vec<Column<'a>> {
-    columns.iter().filter(|(_, name)| !name.contains('.')).copied().collect()
+/// The operations without an attribute: those with flags, and the others.
+fn by_flags<'a>(columns: &[Column<'a>]) -> (Vec<Column<'a>>, Vec<Column<'a>>) {
+    let tells_flags = |name: &str| operations::find(name).is_some_and(|one| one.tells_flags());
+    let plain = columns.iter().filter(|(_, name)| !name.contains('.')).copied();
+    plain.partition(|(_, name)| tells_flags(name))
 }
 
 fn places(head: &str, names: &[&str], columns: &[Column], records: &[Record]) -> String {

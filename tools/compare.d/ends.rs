@@ -52,7 +52,7 @@ pub const OF_SCALING: [Draw; 5] = [
     }),
 ];
 
-/// Of sqrt, floor and trunc.
+/// Of the operations on one pattern.
 pub const OF_ONE: [Draw; 3] = [
     draw("about the least normal number", |f, turn, random| {
         Request::word(sign(f, random) | moved(f, f.smallest_normal(), (turn % 17) as i32 - 8))
@@ -64,7 +64,7 @@ pub const OF_ONE: [Draw; 3] = [
 ];
 
 /// A NaN of either sort and sign, every digit of its fraction in turn.
-fn nan(format: Format, turn: u64, random: &mut Random) -> u64 {
+pub fn nan(format: Format, turn: u64, random: &mut Random) -> u64 {
     let quiet = format.canonical_nan() ^ format.infinity();
     let digit = 1 << (turn / 2 % u64::from(format.fraction_bits - 1));
     let any = (random.word() & (quiet - 1)).max(1);

@@ -1,13 +1,15 @@
 //! Faults that a run must show: the exact answers, each time with one thing wrong. No fault is in any side; what is tried
 //! is whether the operands that are drawn meet it.
 
+use crate::faults_parts::{OF_PARTS, PARTED};
 use crate::faults_rounded::{FUSED, OF_FUSED, OF_ROOTS, ROOTS};
 use crate::faults_whole::{OF_WHOLES, WHOLES};
 use crate::format::{Format, WIDTH_32, WIDTH_64};
 use crate::kinds::{in_values, known_of};
 use crate::plain::exact;
 use crate::request::{Answer, Request};
-use crate::run::{operation_of, same};
+use crate::run::operation_of;
+use crate::settle::same;
 use crate::stream::requests;
 use crate::table;
 
@@ -137,7 +139,7 @@ fn is_tie(format: Format, request: &Request) -> bool {
 #[test]
 fn each_fault_is_met() {
     let mut tried = 0;
-    let all = FAULTS.iter().chain(&OF_ROOTS).chain(&OF_FUSED).chain(&OF_WHOLES);
+    let all = FAULTS.iter().chain(&OF_ROOTS).chain(&OF_FUSED).chain(&OF_WHOLES).chain(&OF_PARTS);
     for Fault { rows, what, spoil } in all {
         for row in rows.iter().filter_map(|name| table::find(name)) {
             let operation = operation_of(row);
@@ -152,22 +154,20 @@ fn each_fault_is_met() {
             tried += 1;
         }
     }
-    assert_eq!(tried, 8 * 3 + 5 + 9 * 2 + 10 * 2 + 16 * 2 + 14 * 4 + 2);
+    assert_eq!(tried, 8 * 3 + 5 + 9 * 2 + 10 * 2 + 16 * 2 + 14 * 6 + 3 * 2 + 7 * 8 + 3 * 2 + 2 * 4 + 4 * 2);
 }
 
 #[test]
 fn exact_answers_are_no_faults() {
-    for name in [REMAINDERS, REDUCTIONS, ROOTS, FUSED, WHOLES].concat() {
+    for name in [REMAINDERS, REDUCTIONS, ROOTS, FUSED, WHOLES, PARTED].concat() {
         let row = table::find(name).unwrap();
         let operation = operation_of(row);
         let known = known_of(row);
         assert!([WIDTH_64, WIDTH_32].contains(&operation.format));
         for (_, request) in requests(row, 1, 20_000).take(20_000) {
-            let (right, mut crates) = (exact(operation, &request), row.others(&request).unwrap());
-            // What libm says of flags is another matter.
-            crates.number = if row.alone.is_some() { right.number } else { crates.number };
+            let (right, crates) = (exact(operation, &request), row.others(&request).unwrap());
             let is_known = in_values(&known, &request).is_some();
-            assert!(is_known || same(row.nans, operation, &right, &crates), "{name} {request:?}");
+            assert!(is_known || same(row, operation.format, &right, &crates), "{name} {request:?}");
         }
     }
 }

@@ -1,14 +1,17 @@
-//! Each answer with wrong flags in a run of its own, which must find it, and the exact answers, in which a run finds nothing.
+//! Each answer with wrong flags, or a wrong value, in a run of its own, which must find it, and the exact answers, in which a
+//! run finds nothing.
 
 use crate::kinds::known_of;
 use crate::operations::Operation;
 use crate::plain::exact;
 use crate::request::{Answer, Request};
-use crate::run::{Run, Sides, Spoiled, operation_of};
+use crate::rows_with_flags::WITH_FLAGS;
+use crate::run::{Run, Spoiled, operation_of};
+use crate::settle::Sides;
 use crate::stream::requests;
-use crate::table::{self, ROWS, Row, Status};
+use crate::table::{self, Judge, Row, Status, plain_rows};
 use crate::tally::Tally;
-use crate::wrong_flags::WRONG;
+use crate::{wrong_flags, wrong_values};
 
 type Spoil<'a> = dyn Fn(&Operation, &Request, &mut Answer) + 'a;
 
@@ -31,14 +34,10 @@ pub fn run(row: &Row, count: usize, ours: &Spoil, crates: &Spoil) -> Tally {
 }
 pub const RIGHT: &Spoil<'static> = &|_, _, _| ();
 
-fn rows_with_flags() -> impl Iterator<Item = &'static Row> {
-    ROWS.iter().filter(|row| row.alone.is_some())
-}
-
 #[test]
-fn wrong_flags_are_found_in_every_operation_that_can_have_them() {
+fn what_is_wrong_is_found_in_every_operation_that_can_have_it() {
     let mut tried = 0;
-    for fault in &WRONG {
+    for fault in wrong_flags::WRONG.iter().chain(&wrong_values::WRONG) {
         for row in fault.operations.iter().filter_map(|name| table::find(name)) {
             let spoil = |operation: &Operation, request: &Request, answer: &mut Answer| {
                 (fault.spoil)(operation.format, request, answer)
@@ -48,11 +47,11 @@ fn wrong_flags_are_found_in_every_operation_that_can_have_them() {
             tried += 1;
         }
     }
-    assert_eq!(tried, 6 * 10 + 5 * 2 + 3 * 2 + 6 * 2 + 7 * 4 + 2 * 4);
+    assert_eq!(tried, 6 * 12 + 12 * 2 + 8 * 4 + 2 * 6 + wrong_values::WRONG.len() * 2);
 }
 #[test]
 fn nothing_is_found_in_the_exact_answers_and_every_known_difference_is_met() {
-    for row in rows_with_flags() {
+    for row in plain_rows().filter(|row| row.judge == Judge::Plain) {
         let tally = run(row, 30_000, RIGHT, RIGHT);
         assert!(tally.is_clean(), "{}: {:?}", row.name, tally.unmet);
         assert!(tally.explained.iter().all(|count| *count > 0), "{}", row.name);
@@ -61,7 +60,7 @@ fn nothing_is_found_in_the_exact_answers_and_every_known_difference_is_met() {
 }
 #[test]
 fn the_head_of_a_run_meets_every_known_difference() {
-    for row in rows_with_flags() {
+    for row in &WITH_FLAGS {
         let heads = known_of(row).len();
         let tally = run(row, heads, RIGHT, RIGHT);
         assert!(tally.is_clean() && tally.explained.iter().all(|count| *count > 0), "{}", row.name);
@@ -69,7 +68,7 @@ fn the_head_of_a_run_meets_every_known_difference() {
 }
 #[test]
 fn a_status_that_libm_does_not_give_there_is_found() {
-    for row in rows_with_flags().filter(|row| row.status == Status::Libms && oracle::api::STATUSES) {
+    for row in WITH_FLAGS.iter().filter(|row| row.status == Status::Libms && oracle::api::STATUSES) {
         // As it would be with libm's text mended: no difference, and that is one from what is known of it.
         let mended = run(row, 3000, RIGHT, &|operation, request, answer| {
             answer.number = exact(operation, request).number

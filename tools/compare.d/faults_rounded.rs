@@ -3,7 +3,7 @@
 use crate::big::Big;
 use crate::faults::{Fault, fault, strike};
 use crate::format::Format;
-use crate::places::sum;
+use crate::fused_places::sum;
 use crate::plain::fma;
 use crate::request::{Answer, Request};
 

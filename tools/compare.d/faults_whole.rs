@@ -1,4 +1,4 @@
-//! Faults of floor and trunc, in values and in flags: the operands that are drawn must meet each, and a run must find it.
+//! Faults of floor, ceil and trunc, in values and in flags: the operands that are drawn must meet each, and a run must find it.
 
 use crate::faults::{Fault, fault};
 use crate::faults_flags::{RIGHT, run};
@@ -7,10 +7,11 @@ use crate::operations::Operation;
 use crate::request::{Answer, Request};
 use crate::table;
 
-pub const WHOLES: &[&str] = &["trunc64", "trunc32", "floor64", "floor32"];
+pub const WHOLES: &[&str] = &["trunc64", "trunc32", "floor64", "floor32", "ceil64", "ceil32"];
+const CEILS: &[&str] = &["ceil64", "ceil32"];
 const FLOORS: &[&str] = &["floor64", "floor32"];
 
-pub static OF_WHOLES: [Fault; 15] = [
+pub static OF_WHOLES: [Fault; 17] = [
     fault(WHOLES, "a power of two below one says OK", |f, r, a| {
         says(a, is_power_below_one(f, r.x()), 0)
     }),
@@ -42,6 +43,13 @@ pub static OF_WHOLES: [Fault; 15] = [
     fault(WHOLES, "-0 loses its sign", |f, r, a| gives(a, r.x() == f.sign_bit(), 0)),
     fault(FLOORS, "powers of two between -1 and 0 go to -0", |f, r, a| {
         gives(a, is_power_below_one(f, r.x()) && f.is_negative(r.x()), f.sign_bit())
+    }),
+    fault(CEILS, "powers of two between 0 and 1 go to +0", |f, r, a| {
+        gives(a, is_power_below_one(f, r.x()) && !f.is_negative(r.x()), 0)
+    }),
+    fault(CEILS, "all digits before the point set, and it is not carried", |f, r, a| {
+        let is_power = f.fraction_field(a.word) == 0 && f.magnitude(a.word) > f.one();
+        gives(a, is_power && f.magnitude(r.x()) < f.magnitude(a.word), a.word - f.smallest_normal())
     }),
 ];
 

@@ -180,7 +180,7 @@ mod tests {
     use crate::plain::fma;
     use crate::format::{WIDTH_32, WIDTH_64};
     use crate::fused::FOR_FUSED;
-    use crate::places::sum;
+    use crate::fused_places::sum;
     use crate::quick::drawn;
     use std::collections::BTreeSet;
 

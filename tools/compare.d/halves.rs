@@ -1,4 +1,4 @@
-//! The known difference of floor and trunc, half-says-ok: the operands of which libm says OK though it changes them,
+//! The known difference of floor, ceil and trunc, half-says-ok: the operands of which libm says OK though it changes them,
 //! as their fraction field is zero.
 
 use crate::format::Format;

@@ -54,7 +54,7 @@ impl Case<'_> {
 }
 
 const ROOTS: &[&str] = &["sqrt64", "sqrt32"];
-const WHOLES: &[&str] = &["trunc64", "trunc32", "floor64", "floor32"];
+const WHOLES: &[&str] = &["trunc64", "trunc32", "floor64", "floor32", "ceil64", "ceil32"];
 const FUSED: &[&str] = &["fma64", "fma32"];
 
 pub static KINDS: [Kind; 12] = [
@@ -196,7 +196,7 @@ mod tests {
     use super::*;
     use crate::plain::exact;
     use crate::run::operation_of;
-    use crate::table::{ROWS, find};
+    use crate::table::{find, plain_rows};
 
     fn entries(name: &str) -> Vec<&'static str> {
         known_of(find(name).unwrap()).iter().map(|kind| kind.entry).collect()
@@ -213,7 +213,7 @@ mod tests {
     }
     #[test]
     fn the_first_operands_of_a_kind_are_of_it() {
-        for row in &ROWS {
+        for row in plain_rows() {
             let (known, operation) = (known_of(row), operation_of(row));
             for (place, kind) in known.iter().enumerate() {
                 let request = (kind.first)(operation.format);
@@ -232,7 +232,9 @@ mod tests {
         assert!(entries("scalbn64").is_empty() && entries("remquo64").is_empty());
         let status = oracle::api::STATUSES;
         assert_eq!(entries("sqrt32") == ["inexact-root", "quiet-nan-root"], status);
-        assert_eq!(entries("floor32") == ["half-says-ok", "signalling-says-ok"], status);
+        for name in WHOLES {
+            assert_eq!(entries(name) == ["half-says-ok", "signalling-says-ok"], status);
+        }
         assert_eq!(entries("fma32").len(), if status { 5 } else { 1 });
         assert_eq!(entries("fma64").len(), if status { 7 } else { 1 });
         assert!(!entries("fma32").contains(&"fma-underflow-alone"));

@@ -10,9 +10,9 @@ use crate::operations::{self, Field, Operation};
 use crate::plain::exact;
 use crate::random::Random;
 use crate::request::Request;
-use crate::run::{PRINTED, Run, Spoiled, caught, operation_of};
+use crate::run::{Run, Spoiled, caught, operation_of};
 use crate::table::{self, LISTS, Row};
-use crate::tally::{Progress, Tally};
+use crate::tally::{PRINTED, Progress, Tally};
 use std::collections::HashSet;
 use std::ops::Range;
 

@@ -2,7 +2,8 @@
 
 use crate::big::Big;
 use crate::format::Format;
-use crate::places::{places, sum};
+use crate::fused_places::sum;
+use crate::places::places;
 use crate::request::Request;
 
 places! { Location, LOCATIONS:

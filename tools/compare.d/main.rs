@@ -17,10 +17,13 @@ mod faults_flags;
 #[cfg(test)]
 mod faults_lists;
 #[cfg(test)]
+mod faults_parts;
+#[cfg(test)]
 mod faults_rounded;
 #[cfg(test)]
 mod faults_whole;
 mod fused;
+mod fused_places;
 mod fused_ties;
 mod halves;
 mod kinds;
@@ -29,6 +32,8 @@ mod list_shapes;
 mod lists;
 mod locations;
 mod numbers;
+mod part_places;
+mod parts;
 mod places;
 mod plain;
 mod quick;
@@ -40,10 +45,15 @@ mod request;
 mod roots;
 mod rounded;
 mod rounded_places;
+mod rows_of_values;
+mod rows_with_flags;
 mod run;
+mod settle;
+mod shifts;
 #[cfg(sqrt_plain)]
 mod sqrt_plain;
 mod squares;
+mod steps;
 mod stream;
 mod table;
 mod tally;
@@ -52,6 +62,8 @@ mod turns;
 mod wrong_attributes;
 #[cfg(test)]
 mod wrong_flags;
+#[cfg(test)]
+mod wrong_values;
 
 // The plain program's modules: its exact answers, its boundary cases and the line format.
 #[allow(dead_code)]
@@ -61,6 +73,9 @@ mod answers;
 #[path = "../plain/answers_flags.rs"]
 mod answers_flags;
 #[allow(dead_code)]
+#[path = "../plain/answers_parts.rs"]
+mod answers_parts;
+#[allow(dead_code)]
 #[path = "../plain/attributes.rs"]
 mod attributes;
 #[allow(dead_code)]
@@ -69,6 +84,9 @@ mod big;
 #[allow(dead_code)]
 #[path = "../plain/cases.rs"]
 mod cases;
+#[allow(dead_code)]
+#[path = "../plain/draws_next.rs"]
+mod draws_next;
 #[allow(dead_code)]
 #[path = "../plain/draws_rounded.rs"]
 mod draws_rounded;

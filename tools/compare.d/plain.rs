@@ -2,6 +2,7 @@
 
 use crate::answers;
 use crate::answers_flags as flagged;
+use crate::answers_parts as parts;
 use crate::attributes::Attribute;
 use crate::draws_rounded::FMA_KINDS;
 use crate::format::Format;
@@ -17,7 +18,19 @@ pub fn exact(operation: &Operation, request: &Request) -> Answer {
         Form::Attribute(attribute) => under(attribute, operation, request),
         Form::Numbered => None,
     };
-    named.unwrap_or_else(|| judged(operation, request))
+    named.or_else(|| parted(operation, request)).unwrap_or_else(|| judged(operation, request))
+}
+
+/// Of an operation that takes a number apart, or steps to the next.
+fn parted(operation: &Operation, request: &Request) -> Option<Answer> {
+    let (format, x) = (operation.format, request.x());
+    match operation.task {
+        Task::Modf => Some(Answer::parts(parts::modf(format, x))),
+        Task::Frexp => Some(Answer::numbered(parts::frexp(format, x))),
+        Task::Ilogb => Some(Answer::exponent(parts::ilogb(format, x))),
+        Task::Nextafter => Some(Answer::value(parts::nextafter(format, x, request.y()))),
+        _ => None,
+    }
 }
 
 /// By the plain program's own entry, which says too what it makes of the number of an attribute.
@@ -49,6 +62,7 @@ fn under(attribute: Attribute, operation: &Operation, request: &Request) -> Opti
         Task::Scalbn => flagged::scalbn(format, attribute, x, request.n()),
         Task::Fma => flagged::fma(format, attribute, request.words),
         Task::Floor => flagged::to_integer(format, x, format.is_negative(x)),
+        Task::Ceil => flagged::to_integer(format, x, !format.is_negative(x)),
         Task::Trunc => flagged::to_integer(format, x, false),
         _ => return None,
     };
@@ -75,6 +89,7 @@ pub fn sqrt(format: Format, x: u64) -> u64 {
 #[cfg(test)]
 mod tests {
     use super::*;
+    use crate::lines::write_fields;
     use crate::operations::find;
     use crate::request::flags;
 
@@ -103,5 +118,17 @@ mod tests {
         // An eighth of the smallest unit off the least normal number.
         let request = Request::three_words([1, 0xbfc0000000000000, least]);
         assert_eq!((exact(fma, &request).word, below(fma, &request)), (least, least - 1));
+    }
+    #[test]
+    fn what_has_no_flags_is_answered_as_the_plain_program_does() {
+        for name in ["modf64", "frexp32", "ilogb64", "nextafter32"] {
+            let operation = find(name).unwrap();
+            for words in [[0, 1, 0], [1, 0, 0], [0x3fc00000, 0x3f800000, 0]] {
+                let request = Request { words, ..Request::default() };
+                let fields = answers::judge(operation, &request.fields(operation));
+                let beside = crate::table::find(name).unwrap().beside;
+                assert_eq!(exact(operation, &request).text(operation, beside), write_fields(operation, &fields));
+            }
+        }
     }
 }

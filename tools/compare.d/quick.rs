@@ -40,10 +40,10 @@ pub fn drawn(draws: &[Draw], kind: &str, format: Format, count: u64) -> Vec<Requ
     (0..count).map(|turn| make(format, turn, &mut random)).collect()
 }
 
-/// Operands of floor and trunc: those of the known difference and their neighbours first, so that the shortest run meets
+/// Operands of floor, ceil and trunc: those of the known difference and their neighbours first, so that the shortest run meets
 /// it; then numbers about the integers at every exponent, and patterns of all classes.
 pub static FOR_WHOLE: [Draw; 6] = joined(WHOLES, OF_ONE);
-const WHOLES: [Draw; 3] = [
+pub const WHOLES: [Draw; 3] = [
     draw("about powers of two below one", |f, turn, random| {
         Request::word(about_power_below_one(f, turn, random))
     }),

@@ -27,10 +27,10 @@ pub fn print_lines(row: &Row, seed: u64, count: u64) {
             None => exact(operation, &request),
             Some(_) if in_values(&known, &request).is_some() => continue,
             Some(crates) => {
-                let word = row.nans.ours(operation.format, crates.word);
+                let wanted = row.wanted(operation.format, &crates);
                 match row.beside {
-                    Beside::Flags => Answer { word, ..exact(operation, &request) },
-                    _ => Answer { word, ..crates },
+                    Beside::Flags => Answer { word: wanted.word, ..exact(operation, &request) },
+                    _ => wanted,
                 }
             }
         };

@@ -46,13 +46,23 @@ pub enum Beside {
     Nothing,
     Flags,
     Quotient,
+    Exponent,
+    /// A pattern too: the whole number beside modf's fraction.
+    Whole,
     Refusal,
     /// Under an attribute: a refusal, and flags.
     RefusalAndFlags,
 }
 
-/// The word, and the number beside it: flags in a word, a quotient, a refusal. Under an attribute flags are the number, and
-/// the refusal stands by itself.
+impl Beside {
+    /// Flags are no part of the value; all else is.
+    pub fn has_flags(self) -> bool {
+        matches!(self, Beside::Flags | Beside::RefusalAndFlags)
+    }
+}
+
+/// The word, and the number beside it: flags in a word, a quotient, an exponent, a pattern, a refusal. Under an attribute flags
+/// are the number, and the refusal stands by itself. Where the value is an exponent, the word is that number in 64 bits.
 #[derive(Clone, Copy, Debug, Default, PartialEq, Eq)]
 pub struct Answer {
     pub word: u64,
@@ -147,8 +157,22 @@ impl Answer {
     pub fn both32((word, status): (u32, u32)) -> Answer {
         Answer::flags(word.into(), status)
     }
-    pub fn quotient((word, quotient): (u64, i32)) -> Answer {
-        Answer { word, number: quotient.into(), ..Answer::default() }
+    /// With a quotient or an exponent.
+    pub fn numbered((word, number): (u64, i32)) -> Answer {
+        Answer { word, number: number.into(), ..Answer::default() }
+    }
+    pub fn numbered32((word, number): (u32, i32)) -> Answer {
+        Answer::numbered((word.into(), number))
+    }
+    pub fn exponent(exponent: i32) -> Answer {
+        Answer::value(i64::from(exponent) as u64)
+    }
+    /// A fraction and a whole number.
+    pub fn parts([fraction, whole]: [u64; 2]) -> Answer {
+        Answer { word: fraction, number: whole as i64, ..Answer::default() }
+    }
+    pub fn parts32((fraction, whole): (u32, u32)) -> Answer {
+        Answer::parts([fraction.into(), whole.into()])
     }
     pub fn refusal(number: u32, word: u64) -> Answer {
         Answer { word, number: number.into(), ..Answer::default() }
@@ -156,11 +180,16 @@ impl Answer {
 
     /// As a line of docs/LINES.md has it.
     pub fn text(&self, operation: &Operation, beside: Beside) -> String {
-        let word = format!("{:0digits$x}", self.word, digits = operation.format.width as usize / 4);
+        let pattern = |word: u64| format!("{word:0digits$x}", digits = operation.format.width as usize / 4);
+        let word = match operation.answer_kinds() {
+            [Kind::Signed] => (self.word as i64).to_string(),
+            _ => pattern(self.word),
+        };
         match beside {
             Beside::Nothing => word,
             Beside::Flags => format!("{word} {}", flags::text(self.number)),
-            Beside::Quotient => format!("{word} {}", self.number),
+            Beside::Quotient | Beside::Exponent => format!("{word} {}", self.number),
+            Beside::Whole => format!("{word} {}", pattern(self.number as u64)),
             Beside::Refusal => format!("{} {word}", self.number),
             Beside::RefusalAndFlags => {
                 format!("{} {word} {}", self.refused, flags::text(self.number))
@@ -178,7 +207,10 @@ mod tests {
     fn an_answer_is_written_as_a_line_has_it() {
         let text = |name, answer: Answer, beside| answer.text(find(name).unwrap(), beside);
         assert_eq!(text("fmod32", Answer::value(7), Beside::Nothing), "00000007");
-        assert_eq!(text("remquo64", Answer::quotient((1, -4)), Beside::Quotient), "0000000000000001 -4");
+        assert_eq!(text("remquo64", Answer::numbered((1, -4)), Beside::Quotient), "0000000000000001 -4");
+        assert_eq!(text("frexp32", Answer::numbered((1, -4)), Beside::Exponent), "00000001 -4");
+        assert_eq!(text("modf64", Answer::parts([1, 1 << 63]), Beside::Whole), "0000000000000001 8000000000000000");
+        assert_eq!(text("ilogb64", Answer::exponent(-1074), Beside::Nothing), "-1074");
         assert_eq!(text("reduce32", Answer::refusal(4, 0), Beside::Refusal), "4 00000000");
         assert_eq!(text("sqrt32", Answer::flags(0, 0), Beside::Flags), "00000000 OK");
         let raised = flags::INEXACT | flags::OVERFLOW;

@@ -6,7 +6,8 @@ use crate::forms::of_stem;
 use crate::operations::{Form, Operation};
 use crate::quick::Draw;
 use crate::request::{Answer, Beside, Request};
-use crate::table::{Judge, Nans, Other, ROWS, Row, STALE, Status};
+use crate::rows_with_flags::WITH_FLAGS;
+use crate::table::{Judge, Nans, Other, Row, STALE, Status};
 use crate::turns::{OF_FUSED, OF_ROOTS, OF_SCALED};
 use std::sync::OnceLock;
 
@@ -78,7 +79,7 @@ pub fn under_attributes() -> &'static [Row] {
 
 /// To nearest even our call without an attribute stands beside. libm has nothing to compare with.
 fn row(rounded: &Rounded, form: &'static Operation) -> Row {
-    let plain = ROWS.iter().find(|row| row.name == rounded.stem).expect("it has a row without an attribute");
+    let plain = WITH_FLAGS.iter().find(|row| row.name == rounded.stem).expect("it has a row without an attribute");
     let is_even = form.form == Form::Attribute(Attribute::Even);
     Row {
         name: form.name,

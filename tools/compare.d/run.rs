@@ -1,21 +1,18 @@
 //! The runs: operands are drawn or counted through, both sides are called, and each answer is judged.
 
 use crate::forms::forms;
-use crate::kinds::{Case, compares_status, in_status, in_values};
 use crate::lines::write_request;
 use crate::operations::{self, Form, Kind, Operation, Task};
-use crate::places::places_met;
 use crate::plain::exact;
-use crate::request::{Answer, Beside, Request};
+use crate::request::{Answer, Request};
+use crate::settle::{Sides, settle};
+use crate::shifts;
 use crate::squares;
 use crate::stream::{attributes, requests};
-use crate::table::{Judge, Nans, OTHER, Row};
+use crate::table::{Judge, Row};
 use crate::tally::{Progress, Tally, kind_names};
 use std::panic::{AssertUnwindSafe, catch_unwind};
 use std::sync::Mutex;
-
-/// Differences beyond these are counted and not printed.
-pub const PRINTED: u64 = 10;
 
 /// A side that is made wrong on purpose, to show that the runs see it.
 #[derive(Clone, Copy, Debug, PartialEq, Eq)]
@@ -57,17 +54,6 @@ pub struct Run {
     pub on: String,
     pub build: String,
     pub spoiled: Spoiled,
-}
-
-/// What was answered for one request.
-pub struct Sides {
-    pub ours: Answer,
-    /// What our call for the value alone gave, where there is one.
-    pub alone: Option<u64>,
-    /// What the side beside ours gave, where there is one.
-    pub crates: Option<Answer>,
-    /// The plain program's answer, where that judges.
-    pub exact: Option<Answer>,
 }
 
 /// What the last panic said, to be reported with the operands that led to it.
@@ -124,9 +110,10 @@ impl Run {
             return Err(format!("{} is not a function of one 32-bit operand", row.name));
         }
         let attribute = attributes(operation, self.seed)();
-        // The plain program's roots would take ten minutes.
+        // The plain program's roots would take ten minutes, and its parts hours.
         let judge: Exact = match operation.task {
             Task::Sqrt => squares::exact,
+            Task::Modf | Task::Frexp | Task::Ilogb => shifts::exact,
             _ => by_the_plain_program,
         };
         let mut tally = Tally::of_row(row, "all 4294967296".to_string(), "none".to_string());
@@ -146,12 +133,12 @@ impl Run {
         let sides = || {
             let ours = (row.ours)(request);
             let crates = row.others(request);
-            let guess = crates.unwrap_or(ours).word;
+            let guess = crates.unwrap_or(ours);
             Sides {
                 ours,
                 alone: row.alone.map(|alone| alone(request)),
                 crates,
-                exact: (row.judge == Judge::Plain).then(|| judge(tally.operation, request, guess)),
+                exact: (row.judge == Judge::Plain).then(|| judge(tally.operation, request, &guess)),
             }
         };
         match caught(sides) {
@@ -164,32 +151,13 @@ impl Run {
         }
     }
 
-    /// What was answered is counted, and reported where it is not as it must be.
+    /// As it was answered, or with one side spoiled.
     pub fn settle(&self, row: &Row, request: &Request, mut sides: Sides, tally: &mut Tally) {
         tally.tried += 1;
         if tally.tried % 1000 == 0 {
             self.spoil(tally.operation, &mut sides);
         }
-        match row.beside {
-            Beside::Refusal => *tally.refusals.entry(sides.ours.number).or_default() += 1,
-            Beside::RefusalAndFlags => {
-                *tally.refusals.entry(sides.ours.refused.into()).or_default() += 1
-            }
-            _ => {}
-        }
-        if let Some(exact) = sides.exact {
-            settle_ours(row, request, &sides, &exact, tally);
-            if let (Some(crates), Some(other)) = (&sides.crates, row.crates) {
-                settle_other(row, request, crates, &exact, other.who, tally);
-            }
-            let places = places_met(tally.operation, request, &exact);
-            places.into_iter().flatten().for_each(|place| tally.places[place] += 1);
-        } else if let Some(crates) = sides.crates {
-            if !same(row.nans, tally.operation, &sides.ours, &crates) {
-                let texts = [&sides.ours, &crates].map(|one| text_of(row, one));
-                report(row, request, &texts[0], OTHER, &texts[1], tally);
-            }
-        }
+        settle(row, request, &sides, tally);
     }
 
     fn spoil(&self, operation: &Operation, sides: &mut Sides) {
@@ -211,118 +179,22 @@ impl Run {
     }
 }
 
-/// How the exact answer is found; the value of the side beside ours, or ours, may be taken for a guess.
-type Exact = fn(&Operation, &Request, u64) -> Answer;
+/// How the exact answer is found; that of the side beside ours, or ours, may be taken for a guess.
+type Exact = fn(&Operation, &Request, &Answer) -> Answer;
 
-fn by_the_plain_program(operation: &Operation, request: &Request, _: u64) -> Answer {
+fn by_the_plain_program(operation: &Operation, request: &Request, _: &Answer) -> Answer {
     exact(operation, request)
-}
-
-/// Ours beside the judge's, and its value beside that of the call for the value alone.
-fn settle_ours(row: &Row, request: &Request, sides: &Sides, exact: &Answer, tally: &mut Tally) {
-    let (ours, alone) = (&sides.ours, sides.alone.unwrap_or(sides.ours.word));
-    if ours != exact {
-        report(row, request, &text_of(row, ours), "the judge", &text_of(row, exact), tally);
-    } else if ours.word != alone {
-        let alone = Answer::value(alone).text(tally.operation, Beside::Nothing);
-        report(row, request, &text_of(row, ours), "the call for the value alone", &alone, tally);
-    }
-}
-
-/// The other side beside the judge's: its value, and its status where that is compared.
-fn settle_other(
-    row: &Row,
-    request: &Request,
-    crates: &Answer,
-    exact: &Answer,
-    who: &str,
-    tally: &mut Tally,
-) {
-    let in_values = || in_values(&tally.known, request);
-    let (mut explained, mut is_explained) = ([None, None], true);
-    if exact.word != row.nans.ours(tally.operation.format, crates.word) {
-        // A judge that errs explains nothing.
-        explained[0] = in_values().filter(|_| *exact == self::exact(tally.operation, request));
-        is_explained = explained[0].is_some();
-    }
-    // A status counts beside a value that is right, or whose difference is known.
-    if is_explained && compares_status(row) {
-        let case = Case { operation: tally.operation, request, exact };
-        let (says, kind) = in_status(&tally.known, &case);
-        // What libm has lost it takes for nothing.
-        let lost = || in_values().filter(|_| crates.number == 0);
-        explained[1] = if crates.number == says { kind } else { lost() };
-        is_explained = crates.number == says || explained[1].is_some();
-    }
-    if is_explained {
-        explained[1] = explained[1].filter(|_| explained[0] != explained[1]);
-        explained.into_iter().flatten().for_each(|place| tally.explained[place] += 1);
-        return;
-    }
-    let beside = if compares_status(row) { Beside::Flags } else { Beside::Nothing };
-    let crates = crates.text(tally.operation, beside);
-    report(row, request, &text_of(row, exact), who, &crates, tally);
-}
-
-fn text_of(row: &Row, answer: &Answer) -> String {
-    answer.text(operation_of(row), row.beside)
-}
-
-/// Whether two answers count as the same.
-pub fn same(nans: Nans, operation: &Operation, ours: &Answer, crates: &Answer) -> bool {
-    ours.word == nans.ours(operation.format, crates.word) && ours.number == crates.number
-}
-
-/// `right` is taken for right, and `who` gives another answer.
-fn report(
-    row: &Row,
-    request: &Request,
-    right: &str,
-    who: &str,
-    other: &str,
-    tally: &mut Tally,
-) {
-    tally.unexplained += 1;
-    if tally.unexplained > PRINTED {
-        return;
-    }
-    let operation = tally.operation;
-    let exact = text_of(row, &exact(operation, request));
-    let request = write_request(operation, &request.fields(operation));
-    println!("difference: {request} -> {right}; {who} gives {other}; exact: {exact}");
 }
 
 #[cfg(test)]
 mod tests {
     use super::*;
-
-    const NAN: u64 = 0x7ff8000000000000;
+    use crate::request::Beside;
 
     fn run_spoiled(spoiled: Spoiled) -> Run {
         Run { seed: 1, on: String::new(), build: String::new(), spoiled }
     }
-    fn counts_as_same(nans: Nans, ours: u64, crates: u64) -> bool {
-        same(
-            nans,
-            operations::find("scalbn64").unwrap(),
-            &Answer::value(ours),
-            &Answer::value(crates),
-        )
-    }
 
-    #[test]
-    fn where_nans_are_equal_ours_is_the_canonical_one() {
-        assert!(counts_as_same(Nans::Equal, NAN, NAN | 1));
-        assert!(counts_as_same(Nans::Equal, NAN, 0xfff0000000000001));
-        assert!(!counts_as_same(Nans::Equal, NAN | 1, NAN | 1));
-        assert!(!counts_as_same(Nans::Equal, NAN, 0x7ff0000000000000));
-        assert!(!counts_as_same(Nans::Equal, 0x7ff0000000000000, NAN));
-    }
-    #[test]
-    fn bit_for_bit_means_nans_too() {
-        assert!(counts_as_same(Nans::BitForBit, 0xfff0000000000001, 0xfff0000000000001));
-        assert!(!counts_as_same(Nans::BitForBit, NAN, NAN | 1));
-    }
     #[test]
     fn every_kind_of_every_row_is_counted() {
         let run = run_spoiled(Spoiled::Nothing);

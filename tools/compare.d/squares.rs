@@ -9,12 +9,12 @@ use crate::request::flags::INEXACT;
 use crate::request::{Answer, Request};
 
 /// The plain program's answer, found quickly where the guess is right.
-pub fn exact(operation: &Operation, request: &Request, guess: u64) -> Answer {
+pub fn exact(operation: &Operation, request: &Request, guess: &Answer) -> Answer {
     let attribute = match operation.form {
         Form::Attribute(attribute) => attribute,
         _ => Attribute::Even,
     };
-    let proved = proved(operation.format, attribute, request.x(), guess);
+    let proved = proved(operation.format, attribute, request.x(), guess.word);
     proved.unwrap_or_else(|| plain::exact(operation, request))
 }
 
@@ -68,8 +68,9 @@ mod tests {
             let (mut proofs, count) = (0, 20_000 * row.draws.len());
             for (_, request) in requests(row, 1, count as u64).take(count) {
                 let right = plain::exact(operation, &request);
-                assert_eq!(exact(operation, &request, right.word), right, "{request:?}");
-                assert_eq!(exact(operation, &request, right.word ^ 1), right, "{request:?}");
+                let wrong = Answer { word: right.word ^ 1, ..right };
+                assert_eq!(exact(operation, &request, &right), right, "{request:?}");
+                assert_eq!(exact(operation, &request, &wrong), right, "{request:?}");
                 proofs += usize::from(proved(WIDTH_32, attribute, request.x(), right.word).is_some());
             }
             assert!(proofs > count / 2, "{proofs}");

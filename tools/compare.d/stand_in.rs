@@ -1,12 +1,14 @@
 //! An archive for tests of compare: every function of the face, answered by the plain program, right or with the one fault
-//! of `wrong_flags`, of `wrong_attributes` or of the calls themselves that the variable PK_FAULT names. It stands in for ours
-//! there, and nowhere else.
+//! of `wrong_flags`, of `wrong_values`, of `wrong_attributes` or of the calls themselves that the variable PK_FAULT names. It
+//! stands in for ours there, and nowhere else.
 #![allow(dead_code)]
 
 #[path = "../plain/answers.rs"]
 mod answers;
 #[path = "../plain/answers_flags.rs"]
 mod answers_flags;
+#[path = "../plain/answers_parts.rs"]
+mod answers_parts;
 #[path = "../plain/attributes.rs"]
 mod attributes;
 #[path = "../plain/big.rs"]
@@ -22,12 +24,14 @@ mod raised;
 mod request;
 mod wrong_attributes;
 mod wrong_flags;
+mod wrong_values;
 
 use attributes::Attribute::{self, Even};
 use format::{Format, WIDTH_32, WIDTH_64};
 use operations::Flags;
 use request::{Answer, Request};
 use std::sync::OnceLock;
+use wrong_flags::Wrong;
 
 /// Faults of the calls themselves: flags are added to what the place holds, and where an attribute is refused a place is
 /// left as it was.
@@ -40,22 +44,32 @@ fn is_asked(name: &str) -> bool {
     static FAULT: OnceLock<Option<String>> = OnceLock::new();
     let asked = FAULT.get_or_init(|| {
         let asked = std::env::var("PK_FAULT").ok()?;
-        let (of_flags, under) = (wrong_flags::WRONG.iter(), wrong_attributes::WRONG.iter());
+        let under = wrong_attributes::WRONG.iter();
         let of_calls = [ADDED, NO_VALUE, NO_FLAGS];
-        let mut names = of_flags.map(|one| one.name).chain(under.map(|one| one.name)).chain(of_calls);
+        let mut names = wrong().map(|one| one.name).chain(under.map(|one| one.name)).chain(of_calls);
         assert!(names.any(|one| one == asked), "PK_FAULT names no fault");
         Some(asked)
     });
     asked.as_deref() == Some(name)
 }
 
-/// The value of the plain program's answer, whose flags are written out, with the fault where it strikes.
-fn written(name: &str, format: Format, request: Request, right: (u64, Flags), out: *mut u32) -> u64 {
-    let mut answer = Answer::flags(right.0, raised::word_of(right.1));
-    let fault = wrong_flags::WRONG.iter().find(|one| is_asked(one.name));
+/// The faults of operations without an attribute.
+fn wrong() -> impl Iterator<Item = &'static Wrong> {
+    wrong_flags::WRONG.iter().chain(&wrong_values::WRONG)
+}
+
+/// The plain program's answer, with the fault where it strikes.
+fn spoiled(name: &str, format: Format, request: Request, mut answer: Answer) -> Answer {
+    let fault = wrong().find(|one| is_asked(one.name));
     if let Some(fault) = fault.filter(|fault| fault.operations.contains(&name)) {
         (fault.spoil)(format, &request, &mut answer);
     }
+    answer
+}
+
+/// The value of the plain program's answer, whose flags are written out.
+fn written(name: &str, format: Format, request: Request, right: (u64, Flags), out: *mut u32) -> u64 {
+    let answer = spoiled(name, format, request, Answer::flags(right.0, raised::word_of(right.1)));
     put_flags(&answer, out);
     answer.word
 }
@@ -84,8 +98,19 @@ fn rounded(name: &str, request: Request) -> Answer {
     answer
 }
 
-fn whole(format: Format, x: u64, is_floor: bool) -> (u64, Flags) {
-    answers_flags::to_integer(format, x, is_floor && format.is_negative(x))
+fn floor(format: Format, x: u64) -> (u64, Flags) {
+    answers_flags::to_integer(format, x, format.is_negative(x))
+}
+fn ceil(format: Format, x: u64) -> (u64, Flags) {
+    answers_flags::to_integer(format, x, !format.is_negative(x))
+}
+fn trunc(format: Format, x: u64) -> (u64, Flags) {
+    answers_flags::to_integer(format, x, false)
+}
+
+/// The name of an operation by that of a function.
+fn name_of(export: &str) -> &str {
+    export.trim_start_matches("pk_")
 }
 
 /// An operation with its flags, and the same for the value alone.
@@ -93,8 +118,7 @@ macro_rules! flagged {
     ($($alone:ident $with_flags:ident $format:ident $word:ty, ($($x:ident: $kind:ty),+), $request:expr, $answer:expr;)+) => {$(
         #[no_mangle]
         pub extern "C" fn $with_flags($($x: $kind),+, flags: *mut u32) -> $word {
-            let name = stringify!($alone).trim_start_matches("pk_");
-            written(name, $format, $request, $answer, flags) as $word
+            written(name_of(stringify!($alone)), $format, $request, $answer, flags) as $word
         }
         #[no_mangle]
         pub extern "C" fn $alone($($x: $kind),+) -> $word {
@@ -106,10 +130,12 @@ macro_rules! flagged {
 flagged! {
     pk_sqrt64 pk_sqrt64_flags WIDTH_64 u64, (x: u64), Request::word(x), answers_flags::sqrt(WIDTH_64, Even, x);
     pk_sqrt32 pk_sqrt32_flags WIDTH_32 u32, (x: u32), Request::word(x.into()), answers_flags::sqrt(WIDTH_32, Even, x.into());
-    pk_floor64 pk_floor64_flags WIDTH_64 u64, (x: u64), Request::word(x), whole(WIDTH_64, x, true);
-    pk_floor32 pk_floor32_flags WIDTH_32 u32, (x: u32), Request::word(x.into()), whole(WIDTH_32, x.into(), true);
-    pk_trunc64 pk_trunc64_flags WIDTH_64 u64, (x: u64), Request::word(x), whole(WIDTH_64, x, false);
-    pk_trunc32 pk_trunc32_flags WIDTH_32 u32, (x: u32), Request::word(x.into()), whole(WIDTH_32, x.into(), false);
+    pk_floor64 pk_floor64_flags WIDTH_64 u64, (x: u64), Request::word(x), floor(WIDTH_64, x);
+    pk_floor32 pk_floor32_flags WIDTH_32 u32, (x: u32), Request::word(x.into()), floor(WIDTH_32, x.into());
+    pk_ceil64 pk_ceil64_flags WIDTH_64 u64, (x: u64), Request::word(x), ceil(WIDTH_64, x);
+    pk_ceil32 pk_ceil32_flags WIDTH_32 u32, (x: u32), Request::word(x.into()), ceil(WIDTH_32, x.into());
+    pk_trunc64 pk_trunc64_flags WIDTH_64 u64, (x: u64), Request::word(x), trunc(WIDTH_64, x);
+    pk_trunc32 pk_trunc32_flags WIDTH_32 u32, (x: u32), Request::word(x.into()), trunc(WIDTH_32, x.into());
     pk_scalbn64 pk_scalbn64_flags WIDTH_64 u64, (x: u64, n: i32), Request::word_and_number(x, n), answers_flags::scalbn(WIDTH_64, Even, x, n);
     pk_scalbn32 pk_scalbn32_flags WIDTH_32 u32, (x: u32, n: i32), Request::word_and_number(x.into(), n), answers_flags::scalbn(WIDTH_32, Even, x.into(), n);
     pk_fma64 pk_fma64_flags WIDTH_64 u64, (x: u64, y: u64, z: u64), Request::three_words([x, y, z]), answers_flags::fma(WIDTH_64, Even, [x, y, z]);
@@ -141,6 +167,42 @@ under_attributes! {
     pk_scalbn32_rounded "scalbn32" u32, (x: u32, n: i32), Request::word_and_number(x.into(), n);
     pk_fma64_rounded "fma64" u64, (x: u64, y: u64, z: u64), Request::three_words([x, y, z]);
     pk_fma32_rounded "fma32" u32, (x: u32, y: u32, z: u32), Request::three_words([x, y, z].map(u64::from));
+}
+
+/// The operations that take a number apart, and nextafter.
+macro_rules! parted {
+    ($($modf:ident $frexp:ident $ilogb:ident $nextafter:ident $format:ident $word:ty;)+) => {$(
+        #[no_mangle]
+        pub extern "C" fn $modf(x: $word, whole: *mut $word) -> $word {
+            let answer = Answer::parts(answers_parts::modf($format, x.into()));
+            let answer = spoiled(name_of(stringify!($modf)), $format, Request::word(x.into()), answer);
+            // The caller lends a place, here and below.
+            unsafe { *whole = answer.number as $word };
+            answer.word as $word
+        }
+        #[no_mangle]
+        pub extern "C" fn $frexp(x: $word, exponent: *mut i32) -> $word {
+            let answer = Answer::numbered(answers_parts::frexp($format, x.into()));
+            let answer = spoiled(name_of(stringify!($frexp)), $format, Request::word(x.into()), answer);
+            unsafe { *exponent = answer.number as i32 };
+            answer.word as $word
+        }
+        #[no_mangle]
+        pub extern "C" fn $ilogb(x: $word) -> i32 {
+            let answer = Answer::exponent(answers_parts::ilogb($format, x.into()));
+            spoiled(name_of(stringify!($ilogb)), $format, Request::word(x.into()), answer).word as i32
+        }
+        #[no_mangle]
+        pub extern "C" fn $nextafter(x: $word, y: $word) -> $word {
+            let answer = Answer::value(answers_parts::nextafter($format, x.into(), y.into()));
+            let request = Request::two_words(x.into(), y.into());
+            spoiled(name_of(stringify!($nextafter)), $format, request, answer).word as $word
+        }
+    )+};
+}
+parted! {
+    pk_modf64 pk_frexp64 pk_ilogb64 pk_nextafter64 WIDTH_64 u64;
+    pk_modf32 pk_frexp32 pk_ilogb32 pk_nextafter32 WIDTH_32 u32;
 }
 
 #[no_mangle]

@@ -4,10 +4,13 @@ use crate::kinds::{Kind, compares_status, known_of};
 use crate::operations::Operation;
 use crate::places::{is_asked, places_of};
 use crate::request::Beside;
-use crate::run::{PRINTED, operation_of};
+use crate::run::operation_of;
 use crate::table::{Row, Status};
 use std::collections::BTreeMap;
 use std::time::{Duration, Instant};
+
+/// Differences beyond these are counted and not printed.
+pub const PRINTED: u64 = 10;
 
 /// From so many operands on a run must have met every place where flags are decided, or its attribute turns.
 const MEETS_ALL: u64 = 20_000;
@@ -48,6 +51,8 @@ fn beside_text(row: &Row) -> &'static str {
     match row.beside {
         Beside::Nothing => "nothing",
         Beside::Quotient => "quotient, compared",
+        Beside::Exponent => "exponent, judged",
+        Beside::Whole => "whole number, judged",
         Beside::Refusal => "refusal, compared",
         Beside::Flags if compares_status(row) => "flags, judged; libm's status, compared",
         Beside::Flags if row.status == Status::Libms => "flags, judged; libm's status, not compared",

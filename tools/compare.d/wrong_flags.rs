@@ -7,30 +7,32 @@ use crate::format::Format;
 use crate::request::flags::{DIVBYZERO, INEXACT, INVALID, OVERFLOW, UNDERFLOW};
 use crate::request::{Answer, Request};
 
-pub struct WrongFlags {
+/// One fault, of the operations that may have it.
+pub struct Wrong {
     pub name: &'static str,
     pub operations: &'static [&'static str],
     pub spoil: fn(Format, &Request, &mut Answer),
 }
 
-const fn wrong(
+pub const fn wrong(
     name: &'static str,
     operations: &'static [&'static str],
     spoil: fn(Format, &Request, &mut Answer),
-) -> WrongFlags {
-    WrongFlags { name, operations, spoil }
+) -> Wrong {
+    Wrong { name, operations, spoil }
 }
 
 const ALL: &[&str] = &[
-    "sqrt64", "sqrt32", "floor64", "floor32", "trunc64", "trunc32", "fma64", "fma32", "scalbn64",
-    "scalbn32",
+    "sqrt64", "sqrt32", "floor64", "floor32", "ceil64", "ceil32", "trunc64", "trunc32", "fma64", "fma32",
+    "scalbn64", "scalbn32",
 ];
+const WHOLES: &[&str] = &["floor64", "floor32", "ceil64", "ceil32", "trunc64", "trunc32"];
 const ROOTS: &[&str] = &["sqrt64", "sqrt32"];
 const FUSED: &[&str] = &["fma64", "fma32"];
 const SCALED: &[&str] = &["scalbn64", "scalbn32"];
 const ROUNDED: &[&str] = &["fma64", "fma32", "scalbn64", "scalbn32"];
 
-pub static WRONG: [WrongFlags; 28] = [
+pub static WRONG: [Wrong; 28] = [
     // invalid
     wrong("quiet-nan-raises-invalid", ALL, |f, r, a| raise(a, INVALID, has_nan(f, r))),
     wrong("signalling-nan-unseen", ALL, |f, r, a| {
@@ -96,10 +98,10 @@ pub static WRONG: [WrongFlags; 28] = [
     // inexact
     wrong("inexact-root-unseen", ROOTS, |_, _, a| lower(a, INEXACT, true)),
     wrong("exact-root-inexact", ROOTS, |f, _, a| raise(a, INEXACT, f.is_finite(a.word))),
-    wrong("half-unseen", &["floor64", "floor32", "trunc64", "trunc32"], |f, r, a| {
+    wrong("half-unseen", WHOLES, |f, r, a| {
         lower(a, INEXACT, f.fraction_field(r.x()) == 0 && f.magnitude(r.x()) < f.one())
     }),
-    wrong("integer-inexact", &["floor64", "floor32", "trunc64", "trunc32"], |f, r, a| {
+    wrong("integer-inexact", WHOLES, |f, r, a| {
         raise(a, INEXACT, f.is_finite(r.x()))
     }),
     wrong("exact-scaling-inexact", SCALED, |f, r, a| {

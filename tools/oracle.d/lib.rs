@@ -5,6 +5,13 @@
 #![no_std]
 #![allow(dead_code, unused_imports, unused_macros, unexpected_cfgs, unstable_name_collisions)]
 
+/// What libm computes for the processor's flags alone is computed here too, and dropped.
+macro_rules! force_eval {
+    ($value:expr) => {
+        core::hint::black_box($value)
+    };
+}
+
 pub mod api;
 pub mod math {
     #[macro_use]
@@ -29,28 +36,49 @@ pub mod math {
         pub fn cold_path() {}
     }
     pub mod generic {
+        mod ceil;
         mod copysign;
         mod fabs;
         mod floor;
         mod fma;
         mod fma_wide;
         mod fmod;
+        mod frexp;
+        mod ilogb;
         mod scalbn;
         mod sqrt;
         mod trunc;
 
+        pub use ceil::ceil_status;
         pub use copysign::copysign;
         pub use fabs::fabs;
         pub use floor::floor_status;
         pub use fma::fma_round;
         pub use fma_wide::fma_wide_round;
         pub use fmod::fmod;
+        pub use frexp::frexp;
+        pub use ilogb::ilogb;
         pub use scalbn::scalbn;
         pub use sqrt::sqrt_round;
         pub use trunc::trunc_status;
     }
+    mod frexp;
+    mod ilogb;
+    mod modf;
+    mod modff;
+    mod nextafter;
+    mod nextafterf;
     mod remquo;
+
+    pub use frexp::frexp;
+    pub use ilogb::ilogb;
+    pub use modf::modf;
+    pub use modff::modff;
+    pub use nextafter::nextafter;
+    pub use nextafterf::nextafterf;
     pub use remquo::remquo;
+    // Some of the generic files say `super::super::Float`.
+    use support::{CastFrom, Float, MinInt};
 
     // The float traits name these two; with no setting made, the public functions are these calls.
     pub fn fma(x: f64, y: f64, z: f64) -> f64 {

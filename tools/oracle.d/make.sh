@@ -1,9 +1,9 @@
 # The oracle's tree, the archive, and programs built with both. Sourced by tools/oracle.
 
-# libm's files that the seven operations need.
-files='generic/copysign generic/fabs generic/floor generic/fma generic/fma_wide generic/fmod generic/scalbn generic/sqrt
-generic/trunc remquo support/big support/env support/float_traits support/int_traits support/int_traits/narrowing_div
-support/macros support/modular'
+# libm's files that the operations need.
+files='frexp generic/ceil generic/copysign generic/fabs generic/floor generic/fma generic/fma_wide generic/fmod generic/frexp
+generic/ilogb generic/scalbn generic/sqrt generic/trunc ilogb modf modff nextafter nextafterf remquo support/big
+support/env support/float_traits support/int_traits support/int_traits/narrowing_div support/macros support/modular'
 
 assemble() { # sets tree
     [ -z "$tree" ] || return 0
@@ -28,9 +28,9 @@ assemble() { # sets tree
             fail 2 "neither text has $file"
         fi
     done
-    # The files in which a status of sqrt, floor, trunc and fma at 64 is decided.
+    # The files in which a status of sqrt, floor, ceil, trunc and fma at 64 is decided.
     statuses=given
-    for name in generic/floor generic/trunc generic/sqrt generic/fma support/env; do
+    for name in generic/floor generic/ceil generic/trunc generic/sqrt generic/fma support/env; do
         grep -q "^math/$name.rs: given" "$part/ORIGIN" || statuses='not given: values alone count'
     done
     echo "statuses: $statuses" >>"$part/ORIGIN"
