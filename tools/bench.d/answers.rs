@@ -1,4 +1,4 @@
-//! What one call answers: a pattern, or a pattern with a second word beside it.
+//! What one call answers: a pattern or an exponent, or a pattern with a second word beside it.
 
 use crate::format::{WIDTH_32, WIDTH_64};
 
@@ -24,7 +24,7 @@ macro_rules! pattern {
 pattern!(u64, WIDTH_64);
 pattern!(u32, WIDTH_32);
 
-/// A quotient.
+/// A quotient or an exponent.
 impl Answer for i32 {
     fn mixed(self) -> u64 {
         self as u64

@@ -7,7 +7,7 @@ use crate::answers::Flags;
 use crate::operands;
 use crate::run::Run;
 use oracle::math::support::{linear_mul_reduction, FpResult, Round, Status};
-use oracle::math::{fma, fmaf, generic, remquo};
+use oracle::math::{fma, fmaf, frexp, generic, ilogb, modf, modff, nextafter, nextafterf, remquo};
 use std::mem::MaybeUninit;
 
 pub struct Operation {
@@ -92,13 +92,25 @@ operations! {
     floor32        (x: u32)                     [pk_floor32: u32]               { generic::floor_status(f32::from_bits(x)).val.to_bits() }                  [patterns, fractions];
     floor64_flags  (x: u64)                     [pk_floor64_flags: u64, Flags]  { both64(generic::floor_status(f64::from_bits(x))) }                        [patterns, fractions];
     floor32_flags  (x: u32)                     [pk_floor32_flags: u32, Flags]  { both32(generic::floor_status(f32::from_bits(x))) }                        [patterns, fractions];
+    ceil64         (x: u64)                     [pk_ceil64: u64]                { generic::ceil_status(f64::from_bits(x)).val.to_bits() }                   [patterns, fractions];
+    ceil32         (x: u32)                     [pk_ceil32: u32]                { generic::ceil_status(f32::from_bits(x)).val.to_bits() }                   [patterns, fractions];
+    ceil64_flags   (x: u64)                     [pk_ceil64_flags: u64, Flags]   { both64(generic::ceil_status(f64::from_bits(x))) }                         [patterns, fractions];
+    ceil32_flags   (x: u32)                     [pk_ceil32_flags: u32, Flags]   { both32(generic::ceil_status(f32::from_bits(x))) }                         [patterns, fractions];
+    modf64         (x: u64)                     [pk_modf64: u64, u64]           { parts64(modf(f64::from_bits(x))) }                                        [patterns, fractions];
+    modf32         (x: u32)                     [pk_modf32: u32, u32]           { parts32(modff(f32::from_bits(x))) }                                       [patterns, fractions];
+    frexp64        (x: u64)                     [pk_frexp64: u64, i32]          { with_number64(frexp(f64::from_bits(x))) }                                 [patterns, positive, small];
+    frexp32        (x: u32)                     [pk_frexp32: u32, i32]          { with_number32(generic::frexp(f32::from_bits(x))) }                        [patterns, positive, small];
+    ilogb64        (x: u64)                     [pk_ilogb64: i32]               { ilogb(f64::from_bits(x)) }                                                [patterns, positive, small];
+    ilogb32        (x: u32)                     [pk_ilogb32: i32]               { generic::ilogb(f32::from_bits(x)) }                                       [patterns, positive, small];
+    nextafter64    (x: u64, y: u64)             [pk_nextafter64: u64]           { nextafter(f64::from_bits(x), f64::from_bits(y)).to_bits() }               [patterns, near, small];
+    nextafter32    (x: u32, y: u32)             [pk_nextafter32: u32]           { nextafterf(f32::from_bits(x), f32::from_bits(y)).to_bits() }              [patterns, near, small];
     scalbn64       (x: u64, n: i32)             [pk_scalbn64: u64]              { generic::scalbn(f64::from_bits(x), n).to_bits() }                         [normal, wide, subnormal];
     scalbn32       (x: u32, n: i32)             [pk_scalbn32: u32]              { generic::scalbn(f32::from_bits(x), n).to_bits() }                         [normal, wide, subnormal];
     scalbn64_flags (x: u64, n: i32)             [pk_scalbn64_flags: u64, Flags] { (generic::scalbn(f64::from_bits(x), n).to_bits(), Flags(0)) }             [normal, wide, subnormal];
     scalbn32_flags (x: u32, n: i32)             [pk_scalbn32_flags: u32, Flags] { (generic::scalbn(f32::from_bits(x), n).to_bits(), Flags(0)) }             [normal, wide, subnormal];
     fmod64         (x: u64, y: u64)             [pk_fmod64: u64]                { generic::fmod(f64::from_bits(x), f64::from_bits(y)).to_bits() }           [near, apart31, apart63, far, worst, small];
     fmod32         (x: u32, y: u32)             [pk_fmod32: u32]                { generic::fmod(f32::from_bits(x), f32::from_bits(y)).to_bits() }           [near, far, worst, small];
-    remquo64       (x: u64, y: u64)             [pk_remquo64: u64, i32]         { with_quotient(remquo(f64::from_bits(x), f64::from_bits(y))) }             [near, far, worst, small];
+    remquo64       (x: u64, y: u64)             [pk_remquo64: u64, i32]         { with_number64(remquo(f64::from_bits(x), f64::from_bits(y))) }             [near, far, worst, small];
     reduce64       (x: u64, shift: u32, y: u64) [pk_reduce64: u32, u64]         { (0, linear_mul_reduction(x, shift, y)) }                                  [random, longest];
     reduce32       (x: u32, shift: u32, y: u32) [pk_reduce32: u32, u32]         { (0, linear_mul_reduction(x, shift, y)) }                                  [random, longest];
     sqrt64         (x: u64)                     [pk_sqrt64: u64]                { root64(x).val.to_bits() }                                                 [patterns, positive, squares, small];
@@ -225,8 +237,20 @@ fn both32(result: FpResult<f32>) -> (u32, Flags) {
     (result.val.to_bits(), number(result.status))
 }
 
-fn with_quotient((rest, quotient): (f64, i32)) -> (u64, i32) {
-    (rest.to_bits(), quotient)
+/// The two parts of modf.
+fn parts64((fraction, whole): (f64, f64)) -> (u64, u64) {
+    (fraction.to_bits(), whole.to_bits())
+}
+fn parts32((fraction, whole): (f32, f32)) -> (u32, u32) {
+    (fraction.to_bits(), whole.to_bits())
+}
+
+/// A value with remquo's quotient or frexp's exponent.
+fn with_number64((value, number): (f64, i32)) -> (u64, i32) {
+    (value.to_bits(), number)
+}
+fn with_number32((value, number): (f32, i32)) -> (u32, i32) {
+    (value.to_bits(), number)
 }
 
 /// The status's own byte. It is private in libm, and asking for it by comparisons would be charged to libm.

@@ -6,10 +6,10 @@
 #include <stddef.h>
 #include <stdint.h>
 
-enum operation { SQRT, FMA, SCALBN, FLOOR, TRUNC, OPERATIONS };
+enum operation { SQRT, FMA, SCALBN, FLOOR, TRUNC, CEIL, OPERATIONS };
 enum width { W64, W32, W16, WIDTHS };
 /* RISC-V's numbers and SoftFloat's. OTHER is any number above them; a name without an attribute rounds to nearest even, and
-   floor and trunc have none. */
+   floor, trunc and ceil have none. */
 enum attribute { EVEN, ZERO, DOWN, UP, AWAY, OTHER, NONE, ATTRIBUTES };
 enum { INVALID = 1, DIVBYZERO = 4, OVERFLOW = 8, UNDERFLOW = 16, INEXACT = 32 };
 
@@ -63,5 +63,6 @@ void tell_counts(void);
 const char *operation_name(enum operation operation);
 const char *attribute_name(enum attribute attribute);
 enum attribute rounding_of(const struct request *request);
+bool is_integral(enum operation operation);
 
 #endif

@@ -74,9 +74,12 @@ static unsigned flags_raised(void) {
 
 static int attribute_of(const struct request *request) {
     static const int modes[] = {[EVEN] = FE_TONEAREST, [ZERO] = FE_TOWARDZERO, [DOWN] = FE_DOWNWARD, [UP] = FE_UPWARD};
-    if (request->operation == FLOOR)
-        return FE_DOWNWARD;
-    return request->operation == TRUNC ? FE_TOWARDZERO : modes[rounding_of(request)];
+    switch (request->operation) {
+    case FLOOR: return FE_DOWNWARD;
+    case TRUNC: return FE_TOWARDZERO;
+    case CEIL: return FE_UPWARD;
+    default: return modes[rounding_of(request)];
+    }
 }
 
 static struct answer calculate(const struct request *request) {

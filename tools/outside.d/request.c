@@ -4,7 +4,7 @@
 
 #include "lines.h"
 
-static const int operands[OPERATIONS] = {[SQRT] = 1, [FMA] = 3, [SCALBN] = 2, [FLOOR] = 1, [TRUNC] = 1};
+static const int operands[OPERATIONS] = {[SQRT] = 1, [FMA] = 3, [SCALBN] = 2, [FLOOR] = 1, [TRUNC] = 1, [CEIL] = 1};
 
 /* What a message shows of a field: its beginning, and no byte that is not to be printed. */
 static const char *shown(struct text field) {
@@ -75,13 +75,13 @@ static bool read_word(struct text field, enum width width, uint64_t *bits) {
     return wrong == 0;
 }
 
-/* What stands after the width: nothing, or a point and an attribute's name or number, but for floor and trunc. */
+/* What stands after the width: nothing, or a point and an attribute's name or number, but for floor, trunc and ceil. */
 static bool read_attribute(struct text text, struct request *request) {
     uint64_t number;
     request->attribute = NONE;
     if (text.start == text.end)
         return true;
-    if (request->operation == FLOOR || request->operation == TRUNC || !takes(&text, "."))
+    if (is_integral(request->operation) || !takes(&text, "."))
         return false;
     for (int attribute = EVEN; attribute <= AWAY; attribute++) {
         request->attribute = attribute;
@@ -151,7 +151,7 @@ bool read_request(struct text *line, struct request *request, char *error, size_
     struct text text = *line, field = *line;
     next_field(&text, &field);
     if (!read_name(field, request)) {
-        snprintf(error, room, "no operation \"%s\"; expected sqrtW, fmaW, scalbnW, floorW or truncW, or sqrtW.A, fmaW.A or scalbnW.A", shown(field));
+        snprintf(error, room, "no operation \"%s\"; expected sqrtW, fmaW, scalbnW, floorW, truncW or ceilW, or sqrtW.A, fmaW.A or scalbnW.A", shown(field));
         return false;
     }
     int wanted = operands[request->operation], found = 0;

@@ -41,11 +41,11 @@ static unsigned flags_of(uint64_t fflags) {
 
 enum outcome work_out(const struct request *request, struct answer *answer) {
     const enum width width = request->width;
-    /* The instructions of floor and trunc name their own. */
+    /* The instructions of floor, trunc and ceil name their own. */
     const enum attribute attribute = rounding_of(request);
     const uint64_t x = request->operand[0], y = request->operand[1], z = request->operand[2];
     uint64_t result, fflags;
-    if (request->operation == FLOOR || request->operation == TRUNC) {
+    if (is_integral(request->operation)) {
         enum outcome outcome = fits_an_integer(width, x);
         if (outcome != ANSWERED)
             return outcome;
@@ -55,6 +55,7 @@ enum outcome work_out(const struct request *request, struct answer *answer) {
     case FMA: BY_WIDTH("fmadd", " ft0, ft1, ft2, ft3"); break;
     case SCALBN: BY_WIDTH("fmul", " ft0, ft1, ft2"); break;
     case FLOOR: INTEGER_BY_WIDTH("rdn"); break;
+    case CEIL: INTEGER_BY_WIDTH("rup"); break;
     default: INTEGER_BY_WIDTH("rtz"); break;
     }
     /* The narrow moves extend the sign. */

@@ -34,7 +34,7 @@ static float64_t integral(float64_t x, uint_fast8_t attribute) {
 static enum outcome in_reach(const struct request *request) {
     if (request->width != W64)
         return NO_WIDTH;
-    if (request->operation == FLOOR || request->operation == TRUNC)
+    if (is_integral(request->operation))
         return fits_an_integer(W64, request->operand[0]);
     return ANSWERED;
 }
@@ -53,6 +53,7 @@ enum outcome work_out(const struct request *request, struct answer *answer) {
     case FMA: result = f64_mulAdd(x, y, z); break;
     case SCALBN: result = f64_mul(x, y); break;
     case FLOOR: result = integral(x, softfloat_round_min); break;
+    case CEIL: result = integral(x, softfloat_round_max); break;
     default: result = integral(x, softfloat_round_minMag); break;
     }
     answer->bits = canonical(W64, result.v);

@@ -16,13 +16,18 @@ static const char *const reasons[OUTCOMES] = {
 };
 
 const char *operation_name(enum operation operation) {
-    static const char *const names[OPERATIONS] = {"sqrt", "fma", "scalbn", "floor", "trunc"};
+    static const char *const names[OPERATIONS] = {"sqrt", "fma", "scalbn", "floor", "trunc", "ceil"};
     return names[operation];
 }
 
 const char *attribute_name(enum attribute attribute) {
     static const char *const names[ATTRIBUTES] = {"even", "zero", "down", "up", "away", "NUMBER", ""};
     return names[attribute];
+}
+
+/* Whether it sends a number to an integer, in a direction of its own. */
+bool is_integral(enum operation operation) {
+    return operation == FLOOR || operation == TRUNC || operation == CEIL;
 }
 
 /* The attribute to compute under, of a request that names one or none. */
