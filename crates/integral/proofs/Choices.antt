@@ -4,11 +4,13 @@ use mathlib.Core.Path.{_≡_, refl, sym, ap, _∙_}
 use native.Mathlib.Nat.{mod-eq-of-lt}
 use native.Mathlib.Omega.{arith}
 use lib.Pow.{pow-pos, pow-add, pow-mono}
+use lib.Dec.{ltb}
 use borrow.Author.Tests.{lt-ltb, le-ltb}
 use Rattle.algebra.proofs.Products.{order, times, times-le, mul-le-cancel, mul-lt-cancel}
 use Rattle.algebra.proofs.Quotients.{div-mod, mod-is}
 use Rattle.ieee.specs.Format.{Format, top, bias, inf, canonical}
 use Rattle.ieee.specs.Pattern.{magnitude, field}
+use Rattle.ieee.proofs.Fields.{magnitude-fields, field-finite}
 use Rattle.ieee.proofs.Patterns.{inf-below-top}
 use Rattle.fmt_fields.specs.Width.{format, Fits}
 use Rattle.fmt_fields.proofs.Decoded.{field-in-word}
@@ -39,6 +41,13 @@ past-infinity f x h = rw (lt-ltb (inf f) (magnitude f x) h)
 pub not-past : (f : Format) (x : ℕ) → magnitude f x ≤ inf f → oneNan f x ≡ x
 unfolding oneNan
 not-past f x h = rw (le-ltb (inf f) (magnitude f x) h)
+
+-- numbers are told by the exponent field
+pub number-by-field : (f : Format) (x : ℕ) → ltb (field f x) (2 ^ f .expo - 1) ≡ ltb (magnitude f x) (inf f)
+number-by-field f x =
+    order (2 ^ f .expo - 1) (field f x)
+    (λ l. le-ltb (field f x) (2 ^ f .expo - 1) l ∙ sym (le-ltb (magnitude f x) (inf f) (omega (arith, magnitude-fields f x, times-le (2 ^ f .frac) l))))
+    (λ l. lt-ltb (field f x) (2 ^ f .expo - 1) l ∙ sym (lt-ltb (magnitude f x) (inf f) (field-finite f x l)))
 
 -- ---- in words
 module _ {p e : ℕ} (w : Fits p e) where

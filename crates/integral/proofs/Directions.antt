@@ -9,7 +9,7 @@ use lib.Pow.{pow-pos, pow-mono}
 use borrow.Author.Tests.{le-leb, lt-leb, eq-eqb, ne-eqb}
 use Rattle.algebra.proofs.Products.{order, times, times-le}
 use Rattle.algebra.proofs.Quotients.{div-mod, div-is}
-use Rattle.ieee.specs.Format.{Format, Fair, top, bias, low, units}
+use Rattle.ieee.specs.Format.{Format, Fair, top, bias, inf, low, units}
 use Rattle.ieee.specs.Pattern.{Pattern, minus, magnitude, field, signed, finite}
 use Rattle.ieee.specs.Round.{Way, shorter, longer, Attribute, toward-positive, toward-negative, wayOf}
 use Rattle.ieee.specs.Whole.{whole, wholeIn, floorOf, ceilOf}
@@ -24,7 +24,7 @@ use Rattle.integral.specs.Directed.{directed, goesAway, onesIf, oneOrZer
 use Rattle.integral.proofs.Masks.{ones-without, under-ones, under-none}
 use Rattle.integral.proofs.Choices.{at-below, at-part, at-whole, by-cases}
 use Rattle.integral.proofs.Scaled.{longer-scaled, cut-after}
-use Rattle.integral.proofs.WholeParts.{wholeIn-at, stays, units-one, below-one, far, part-bits, part-cut, shorter-all, shorter-part}
+use Rattle.integral.proofs.WholeParts.{wholeIn-at, stays, past-stays, units-one, below-one, far, part-bits, part-cut, shorter-all, shorter-part}
 use Rattle.integral.proofs.Method.{Part, part-of, one-below-infinity}
 
 -- ---- up or down is an attribute, whose way is away from zero or toward it
@@ -146,6 +146,9 @@ directed-by-point {p} {e} w up x i =
     (λ l h. at-part f x (belowOne f up x) (cutBy c x b) (oneNan f x) l h ∙ cut-is f g a x i c b (pattern-room w) y (part-of w x l h) l)
     (λ h. at-whole f x (belowOne f up x) (cutBy c x b) (oneNan f x) h ∙ sym (stays f g a x i h))
     ∙ directed-is f up x
+
+pub past-numbers : (f : Format) → Fair f → (up : Bool) (x : ℕ) → inf f ≤ magnitude f x → oneNan f x ≡ directed f up x
+past-numbers f g up x h = sym (past-stays f g (sends up) x h) ∙ directed-is f up x
 
 -- ---- in words, by a word of ones
 -- the sign as a number

@@ -48,13 +48,17 @@ module _ (f : Format) (g : Fair f) where
       let v = ap (λ n. whole w n (2 ^ low f)) u ∙ whole-multiple w k (2 ^ low f) (pow-pos (low f)) in
       wholeIn-at a x m l l (u ∙ times (2 ^ low f) (sym v)) ∙ signed-is f x p
 
+  pub past-stays : (a : Attribute) (x : ℕ) → inf f ≤ magnitude f x → wholeIn f a x ≡ oneNan f x
+  past-stays a x l =
+      order (magnitude f x) (inf f)
+      (λ i. infinity-stays f a x (kind-infinite f x (both-ways (magnitude f x) (inf f) i l)) ∙ sym (not-past f x i))
+      (λ i. nan-canonical f a x (kind-nan f x i) ∙ sym (past-infinity f x i))
+
   pub stays : (a : Attribute) (x : ℕ) → Pattern f x → bias f + f .frac ≤ field f x → wholeIn f a x ≡ oneNan f x
   stays a x p h =
       order (suc (magnitude f x)) (inf f)
       (λ l. finite-stays a x p h l ∙ sym (not-past f x (omega arith)))
-      (λ l. order (magnitude f x) (inf f)
-      (λ i. infinity-stays f a x (kind-infinite f x (both-ways (magnitude f x) (inf f) i (omega arith))) ∙ sym (not-past f x i))
-      (λ i. nan-canonical f a x (kind-nan f x i) ∙ sym (past-infinity f x i)))
+      (λ l. past-stays a x (omega arith))
 
   -- ---- units by the significand: the exponent field less one, and a significand from 2 ^ frac to twice that
   units-normal : (c n : ℕ) → 2 ^ f .frac ≤ n → n ≤ 2 * 2 ^ f .frac → units f (c * 2 ^ f .frac + n) ≡ n * 2 ^ c

@@ -1,8 +1,9 @@
 -- The steps of floor and ceil, in a word: a number sent down, or up. Assumes nothing.
-use Prim.Native.Nat.{ℕ, suc, _+_, _-_, _*_, _/_, _%_, _^_}
+use Prim.Native.Nat.{ℕ, suc, _+_, _-_, _*_, _/_, _%_, _^_, _<_}
+use mathlib.Core.Path.{_≡_}
 use mathlib.Core.Bool.{Bool, true, false, not, cond}
 use lib.Dec.{eqb}
-use Rattle.ieee.specs.Format.{Format, bias}
+use Rattle.ieee.specs.Format.{Format, bias, inf}
 use Rattle.ieee.specs.Pattern.{minus, magnitude, signed}
 use Rattle.ieee.specs.Whole.{floorOf, ceilOf}
 
@@ -31,3 +32,7 @@ belowOne f up x = cond (eqb (magnitude f x) 0) x (oneOrZero f up x)
 -- x without the bits under the mask b; where it goes away from zero, less one before the cut, and one above the mask more after it
 unfoldable pub cutBy : Bool → ℕ → ℕ → ℕ
 cutBy a x b = cond a (((x + (2 ^ 64 - 1)) % 2 ^ 64 / suc b * suc b + suc b) % 2 ^ 64) (x / suc b * suc b)
+
+-- x is a number, where that is known
+abbrev pub Known : Format → ℕ → Bool → Type 0
+Known f x known = known ≡ true → magnitude f x < inf f

@@ -1,16 +1,23 @@
-// floor and ceil alike: a number sent down, or up, to a whole number. Nothing here needs a jump.
+// floor and ceil alike: a number sent down, or up, to a whole number. The value alone needs no jump.
 ghost use mathlib.Core.Path.{_≡_};
-ghost use Rattle.ieee.specs.Pattern.{Pattern, minus};
+ghost use Rattle.ieee.specs.Pattern.{Pattern, minus, kind};
+ghost use Rattle.ieee.specs.Whole.{wholeFlagsBy};
 ghost use Rattle.fmt_fields.specs.Width.{format, Fits};
-ghost use Rattle.integral.specs.Point.{Mask};
-ghost use Rattle.integral.specs.Directed.{directed, goesAway, onesIf, oneOrZero, belowOne, cutBy};
+ghost use Rattle.fmt_fields.specs.Raised.{flagsOf};
+ghost use Rattle.integral.specs.Point.{oneNan, Mask};
+ghost use Rattle.integral.specs.Directed.{directed, goesAway, onesIf, oneOrZero, belowOne, cutBy, Known};
 use crate::point::bias;
 use crate::point::canonicalise;
 use crate::point::choose_by_point;
 use crate::point::clear_under;
 use crate::point::exponent_of;
 use crate::point::fraction_mask;
+use crate::point::is_number;
 use crate::point::shift_sign_out;
+use fmt_fields::env::Raised64;
+use fmt_fields::env::inexact_if;
+use fmt_fields::env::invalid_if;
+use fmt_fields::pattern::is_signalling;
 use word_bits::pow;
 
 // All ones where x is negative, otherwise 0.
@@ -70,14 +77,51 @@ fn cut_by(frac: u32, expo: u32, x: u64, up: bool, mask: u64) -> u64
     std::num::wrapping_sub_u64(clear_under(less, mask), clear_under(away, mask))
 }
 
-pub fn directed_pattern(frac: u32, expo: u32, x: u64, up: bool) -> u64
-    requires { ⌜ Fits frac expo × Pattern (format frac expo) x ⌝ }
+// x, or the canonical NaN for every NaN; where x is known for a number nothing is asked.
+fn canonicalise_unless(frac: u32, expo: u32, x: u64, known: bool) -> u64
+    requires { ⌜ Fits frac expo × Known (format frac expo) x known ⌝ }
+    ensures { λ r. ⌜ r ≡ oneNan (format frac expo) x ⌝ }
+{
+    if known {
+        return x;
+    }
+    canonicalise(frac, expo, x)
+}
+
+fn direct(frac: u32, expo: u32, x: u64, up: bool, known: bool) -> u64
+    requires { ⌜ Fits frac expo × Pattern (format frac expo) x × Known (format frac expo) x known ⌝ }
     ensures { λ r. ⌜ (r ≡ directed (format frac expo) up x) × Pattern (format frac expo) r ⌝ }
 {
     let n = exponent_of(frac, expo, x);
     let mask = fraction_mask(frac, n);
     let part = cut_by(frac, expo, x, up, mask);
     let below = send_below_one(frac, expo, x, up);
-    let one = canonicalise(frac, expo, x);
+    let one = canonicalise_unless(frac, expo, x, known);
     choose_by_point(frac, expo, x, n, below, part, one)
+}
+
+pub fn directed_pattern(frac: u32, expo: u32, x: u64, up: bool) -> u64
+    requires { ⌜ Fits frac expo × Pattern (format frac expo) x ⌝ }
+    ensures { λ r. ⌜ (r ≡ directed (format frac expo) up x) × Pattern (format frac expo) r ⌝ }
+{
+    direct(frac, expo, x, up, false)
+}
+
+// With flags. Whether x is a number is asked first, by a jump that is guessed rightly, so that neither value nor flags of a number look for a NaN.
+pub fn directed_flags(frac: u32, expo: u32, x: u64, up: bool) -> Raised64
+    requires { ⌜ Fits frac expo × Pattern (format frac expo) x ⌝ }
+    ensures { λ r. ⌜ (r .value ≡ directed (format frac expo) up x) × Pattern (format frac expo) (r .value)
+        × (flagsOf (r .flags) ≡ wholeFlagsBy (format frac expo) x (r .value) (kind (format frac expo) x)) ⌝ }
+{
+    if is_number(frac, expo, x) {
+        let r = direct(frac, expo, x, up, true);
+        return Raised64 {
+            value: r,
+            flags: inexact_if(r != x),
+        };
+    }
+    Raised64 {
+        value: canonicalise(frac, expo, x),
+        flags: invalid_if(is_signalling(frac, expo, x)),
+    }
 }

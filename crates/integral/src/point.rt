@@ -1,6 +1,8 @@
 // Where the point stands in a pattern, and choices by it. Nothing here needs a jump.
 ghost use mathlib.Core.Path.{_≡_};
 ghost use Prim.Native.Nat.{suc, _+_, _-_, _*_, _/_, _%_, _≤_, _<_, _^_};
+ghost use lib.Dec.{ltb};
+ghost use Rattle.ieee.specs.Format.{inf};
 ghost use Rattle.ieee.specs.Pattern.{magnitude};
 ghost use Rattle.fmt_fields.specs.Width.{format, Fits};
 ghost use Rattle.integral.specs.Point.{exponentOf, behindOf, byPoint, tailOf, oneNan, Mask};
@@ -87,6 +89,14 @@ pub fn shift_sign_out(frac: u32, expo: u32, x: u64) -> u64
     ensures { λ r. ⌜ r ≡ magnitude (format frac expo) x * 2 ^ (64 - (frac + expo)) ⌝ }
 {
     x << (64 - (frac + expo))
+}
+
+// Whether x is a number: only infinities and NaNs have the last exponent field.
+pub fn is_number(frac: u32, expo: u32, x: u64) -> bool
+    requires { ⌜ Fits frac expo ⌝ }
+    ensures { λ r. ⌜ r ≡ ltb (magnitude (format frac expo) x) (inf (format frac expo)) ⌝ }
+{
+    exponent_field(frac, expo, x) < pow(expo) - 1
 }
 
 // x, or the canonical NaN for every NaN, whose magnitude exceeds infinity.

@@ -2,15 +2,14 @@
 use mathlib.Core.Path.{_∙_}
 use borrow.Author.Needs.{needs}
 use Rattle.ieee.specs.Format.{b32}
-use Rattle.fmt_fields.proofs.Widths.{fits32}
 use Rattle.integral.proofs.Raises.{ceil-raises}
 use Rattle.integral.proofs.ceil.ceil32_flags.Statement.{statement}
 use Rattle.integral.proofs.ceil.ceil32_flags.Tie as tie
 
 returns : tie.Need-returns
 returns c =
-    let e = c .before .ceil32 .ensures in
-    (e, c .flags .ensures ∙ ceil-raises b32 (c .before .before .args .x) (c .before .ceil32 .result) e)
+    let d = c .before .before .directed-flags in
+    (d .ensures .0, d .ensures .2 ∙ ceil-raises b32 (c .before .before .before .args .x) (d .result .value) (d .ensures .0))
 
 pub ceil32-flags-spec : {M : Type 1} → statement M
-ceil32-flags-spec = tie.close (tie.spec (λ c κs. tt) (λ c. search needs) (λ c κs. fits32) returns)
+ceil32-flags-spec = tie.close (tie.spec (λ c κs. search needs) (λ c. search needs) returns)
