@@ -3,6 +3,7 @@ ghost use mathlib.Core.Path.{_≡_};
 ghost use mathlib.Core.Bool.{true};
 ghost use Prim.Native.Nat.{_≤_};
 ghost use Rattle.ieee.specs.Format.{b64, b32};
+ghost use Rattle.ieee.specs.Pattern.{Pattern};
 ghost use Rattle.ieee.specs.Frexp.{frexpOf, frexpExponent};
 ghost use Rattle.fmt_fields.specs.Width.{format, Fits};
 ghost use Rattle.fmt_decode.specs.Aside.{aside};
@@ -54,8 +55,8 @@ fn frexp_aside(frac: u32, expo: u32, x: u64) -> Frexp64
 
 // Most numbers are normal, so that is asked first.
 fn frexp_pattern(frac: u32, expo: u32, x: u64) -> Frexp64
-    requires { ⌜ Fits frac expo × (3 ≤ expo) ⌝ }
-    ensures { λ r. ⌜ (r .fraction ≡ frexpOf (format frac expo) x) × (r .exponent ≡ frexpExponent (format frac expo) x) ⌝ }
+    requires { ⌜ Fits frac expo × (3 ≤ expo) × Pattern (format frac expo) x ⌝ }
+    ensures { λ r. ⌜ (r .fraction ≡ frexpOf (format frac expo) x) × (r .exponent ≡ frexpExponent (format frac expo) x) × Pattern (format frac expo) (r .fraction) ⌝ }
 {
     if is_normal(frac, expo, x) {
         return break_number(frac, expo, x, unpack_normal(frac, expo, x));

@@ -1,24 +1,22 @@
 -- ceil is exact: it gives the least whole number of ones not below its operand, and no other. Assumes nothing.
 use Prim.Native.Nat.{ℕ, _+_, _*_, _/_, _^_, _≤_, _<_}
-use mathlib.Core.Path.{_≡_, sym, ap, _∙_}
+use mathlib.Core.Path.{_≡_, refl, sym, ap, _∙_}
 use mathlib.Core.Bool.{Bool, true, false}
-use native.Mathlib.Nat.{one-mul}
 use native.Mathlib.Omega.{arith}
 use lib.Pow.{pow-pos}
 use lib.IntN.{ℤ, pos, negℤ, _-ℤ_, _*ℤ_}
 use lib.Signed.{_≤ℤ_, _<ℤ_}
 use Rattle.algebra.proofs.Products.{times, mul-lt-cancel}
-use Rattle.algebra.proofs.Quotients.{div-mod, div-is}
+use Rattle.algebra.proofs.Quotients.{div-mod}
 use Rattle.algebra.proofs.Integers.{up, dn, negZ, subZ, timesZ, eqZ, leZ-fact, ltZ-fact, leZ-of, ltZ-of}
 use Rattle.ieee.specs.Format.{Format, Fair, low, units}
 use Rattle.ieee.specs.Pattern.{Pattern, minus, magnitude, signed, finite, kind, withSign, value}
 use Rattle.ieee.specs.Round.{longer, toward-positive, wayOf}
 use Rattle.ieee.specs.Whole.{whole, wholeIn, ceilOf}
-use Rattle.ieee.specs.WholeRule.{Ceiled, WholeRows, CeilRows}
-use Rattle.ieee.proofs.Patterns.{finite-is, value-is}
-use Rattle.ieee.proofs.Signs.{signed-times}
-use Rattle.ieee.proofs.WholeParts.{sent-value, wholeIn-sent, wholeIn-none, whole-pattern}
-use Rattle.ieee.proofs.Wholes.{longer-sides, longer-one, wholeIn-rows, value-only}
+use Rattle.ieee.specs.WholeRule.{Ceiled, CeilRows}
+use Rattle.ieee.proofs.Patterns.{value-is}
+use Rattle.ieee.proofs.WholeParts.{wholeIn-sent, whole-pattern}
+use Rattle.ieee.proofs.Wholes.{longer-sides, sent-counts, wholeIn-rows, value-only, toward-zero-none, away-one}
 
 -- ---- ceil sends a positive number away from zero, and a negative one toward it
 ceil-least : (s : Bool) (n d : ℕ) → 0 < d → ((withSign s (whole (wayOf toward-positive s) n d) -ℤ pos 1) *ℤ pos d) <ℤ withSign s n
@@ -47,7 +45,7 @@ ceil-is f g x u h =
       k = withSign (minus f x) k;
       pattern = s .pattern;
       finite = s .finite;
-      counts = sent-value f (wayOf toward-positive (minus f x)) x (wholeIn f toward-positive x) s ∙ sym (signed-times (minus f x) k (2 ^ low f));
+      counts = sent-counts f toward-positive g x u h;
       least = rw (value-is f x) (ceil-least (minus f x) (units f (magnitude f x)) (2 ^ low f) (pow-pos (low f)));
       most = rw (value-is f x) (ceil-most (minus f x) (units f (magnitude f x)) (2 ^ low f) (pow-pos (low f)));
       sign = s .sign;
@@ -67,28 +65,15 @@ ceil-only f x r q a b =
     let k = eqZ (a .k) (b .k) (omega arith) in
     value-only f r q (a .pattern) (b .pattern) (a .sign ∙ sym (b .sign)) (a .counts ∙ ap (λ n. n *ℤ pos (2 ^ low f)) k ∙ sym (b .counts))
 
-ceil-whole-rows : (f : Format) → WholeRows f (ceilOf f)
-unfolding ceilOf
-ceil-whole-rows f = wholeIn-rows f toward-positive
-
 pub ceil-pattern : (f : Format) → Fair f → (x : ℕ) → Pattern f x → Pattern f (ceilOf f x)
 unfolding ceilOf
 ceil-pattern f g x p = whole-pattern f toward-positive g x p
 
--- ---- ceil between -1 and 1
-ceil-below-zero : (f : Format) (x u : ℕ) → kind f x ≡ finite u → u < 2 ^ low f → minus f x ≡ true → ceilOf f x ≡ signed f true 0
-unfolding ceilOf
-ceil-below-zero f x u h l s =
-    let e = ap (λ t. whole (wayOf toward-positive t) u (2 ^ low f)) s ∙ div-is u (2 ^ low f) 0 u l (omega arith) .0 in
-    wholeIn-none f toward-positive x u h e ∙ ap (λ t. signed f t 0) s
-
-ceil-above-zero : (f : Format) → Fair f → (x u : ℕ) → kind f x ≡ finite u → 0 < u → u < 2 ^ low f → minus f x ≡ false → value f (ceilOf f x) ≡ pos (2 ^ low f)
-unfolding ceilOf
-ceil-above-zero f g x u h p l s =
-    let v = sent-value f (wayOf toward-positive (minus f x)) x (wholeIn f toward-positive x) (wholeIn-sent f toward-positive g x u h) in
-    let e = finite-is f x u h .counts in
-    let o = times (2 ^ low f) (longer-one u (2 ^ low f) p l) ∙ one-mul (2 ^ low f) in
-    v ∙ (λ i. withSign (s i) (whole (wayOf toward-positive (s i)) (e i) (2 ^ low f) * 2 ^ low f)) ∙ ap pos o
-
 pub ceil-rows : (f : Format) → Fair f → CeilRows f (ceilOf f)
-ceil-rows f g = record { rows = ceil-whole-rows f; above-zero = ceil-above-zero f g; below-zero = ceil-below-zero f }
+unfolding ceilOf
+ceil-rows f g =
+    record {
+      rows = wholeIn-rows f toward-positive;
+      above-zero = λ x u h p l s. away-one f toward-positive x u h l g p false s refl;
+      below-zero = λ x u h l s. toward-zero-none f toward-positive x u h l true s refl;
+    }

@@ -14,7 +14,7 @@ use Rattle.algebra.proofs.Quotients.{div-mod, div-is}
 use Rattle.algebra.proofs.Integers.{up, dn, addZ, negZ, timesZ, eqZ, leZ-fact, ltZ-fact, leZ-of, ltZ-of}
 use Rattle.ieee.specs.Format.{Format, Fair, low, units}
 use Rattle.ieee.specs.Pattern.{Pattern, minus, magnitude, signed, Kind, nan, infinite, finite, kind, withSign, value}
-use Rattle.ieee.specs.Round.{longer, Attribute, toward-zero, toward-negative, wayOf}
+use Rattle.ieee.specs.Round.{shorter, longer, Attribute, toward-zero, toward-negative, wayOf}
 use Rattle.ieee.specs.Whole.{whole, wholeIn, truncOf, floorOf}
 use Rattle.ieee.specs.WholeRule.{Truncated, Floored, WholeRows, FloorRows}
 use Rattle.ieee.proofs.Units.{units-inj}
@@ -69,6 +69,12 @@ minus-most n k d h =
     let (u, v) = negZ (pos k) in
     record { lt = ltZ-of (negℤ (pos n)) (m *ℤ pos d) (omega (arith, negZ (pos n), timesZ m d, times d (addZ (negℤ (pos k)) (pos 1)), times d u, times d v)) }
 
+-- what an attribute sends a number to, as a signed number of ones
+pub sent-counts : (f : Format) (a : Attribute) → Fair f → (x u : ℕ) → kind f x ≡ finite u
+    → value f (wholeIn f a x) ≡ withSign (minus f x) (whole (wayOf a (minus f x)) (units f (magnitude f x)) (2 ^ low f)) *ℤ pos (2 ^ low f)
+sent-counts f a g x u h =
+    sent-value f (wayOf a (minus f x)) x (wholeIn f a x) (wholeIn-sent f a g x u h) ∙ sym (signed-times (minus f x) (whole (wayOf a (minus f x)) (units f (magnitude f x)) (2 ^ low f)) (2 ^ low f))
+
 -- floor sends a positive number toward zero, and a negative one away from it
 floor-least : (s : Bool) (n d : ℕ) → 0 < d → (withSign s (whole (wayOf toward-negative s) n d) *ℤ pos d) ≤ℤ withSign s n
 floor-least false n d p = record { le = le→leb (n / d * d) n (omega (arith, div-mod n d p)) }
@@ -87,7 +93,7 @@ floor-is f g x u h =
       k = withSign (minus f x) k;
       pattern = s .pattern;
       finite = s .finite;
-      counts = sent-value f (wayOf toward-negative (minus f x)) x (wholeIn f toward-negative x) s ∙ sym (signed-times (minus f x) k (2 ^ low f));
+      counts = sent-counts f toward-negative g x u h;
       least = rw (value-is f x) (floor-least (minus f x) (units f (magnitude f x)) (2 ^ low f) (pow-pos (low f)));
       most = rw (value-is f x) (floor-most (minus f x) (units f (magnitude f x)) (2 ^ low f) (pow-pos (low f)));
       sign = s .sign;
@@ -117,10 +123,6 @@ pub trunc-rows : (f : Format) → WholeRows f (truncOf f)
 unfolding truncOf
 trunc-rows f = wholeIn-rows f toward-zero
 
-floor-whole-rows : (f : Format) → WholeRows f (floorOf f)
-unfolding floorOf
-floor-whole-rows f = wholeIn-rows f toward-negative
-
 -- every answer is a pattern
 pub trunc-pattern : (f : Format) → Fair f → (x : ℕ) → Pattern f x → Pattern f (truncOf f x)
 unfolding truncOf
@@ -130,13 +132,7 @@ pub floor-pattern : (f : Format) → Fair f → (x : ℕ) → Pattern f x → Pa
 unfolding floorOf
 floor-pattern f g x p = whole-pattern f toward-negative g x p
 
--- ---- floor between -1 and 1
-floor-above-zero : (f : Format) (x u : ℕ) → kind f x ≡ finite u → u < 2 ^ low f → minus f x ≡ false → floorOf f x ≡ 0
-unfolding floorOf
-floor-above-zero f x u h l s =
-    let e = ap (λ t. whole (wayOf toward-negative t) u (2 ^ low f)) s ∙ div-is u (2 ^ low f) 0 u l (omega arith) .0 in
-    wholeIn-none f toward-negative x u h e ∙ ap (λ t. signed f t 0) s
-
+-- ---- between -1 and 1: toward zero a zero, and away from it a one
 pub longer-one : (n d : ℕ) → 0 < n → n < d → whole longer n d ≡ 1
 longer-one n d p l =
     let s = longer-sides n d (omega arith) in
@@ -144,16 +140,28 @@ longer-one n d p l =
     let b = mul-lt-cancel (whole longer n d) 2 d (omega arith) in
     omega arith
 
-floor-below-zero : (f : Format) → Fair f → (x u : ℕ) → kind f x ≡ finite u → 0 < u → u < 2 ^ low f → minus f x ≡ true → value f (floorOf f x) ≡ negℤ (pos (2 ^ low f))
-unfolding floorOf
-floor-below-zero f g x u h p l s =
-    let v = sent-value f (wayOf toward-negative (minus f x)) x (wholeIn f toward-negative x) (wholeIn-sent f toward-negative g x u h) in
-    let e = finite-is f x u h .counts in
-    let o = times (2 ^ low f) (longer-one u (2 ^ low f) p l) ∙ one-mul (2 ^ low f) in
-    v ∙ (λ i. withSign (s i) (whole (wayOf toward-negative (s i)) (e i) (2 ^ low f) * 2 ^ low f)) ∙ ap (λ n. negℤ (pos n)) o
+module _ (f : Format) (a : Attribute) (x u : ℕ) (h : kind f x ≡ finite u) (l : u < 2 ^ low f) where
+  pub toward-zero-none : (t : Bool) → minus f x ≡ t → wayOf a t ≡ shorter → wholeIn f a x ≡ signed f t 0
+  toward-zero-none t s w =
+      let e = ap (λ c. whole c u (2 ^ low f)) (ap (wayOf a) s ∙ w) ∙ div-is u (2 ^ low f) 0 u l (omega arith) .0 in
+      wholeIn-none f a x u h e ∙ ap (λ t. signed f t 0) s
+
+  pub away-one : Fair f → 0 < u → (t : Bool) → minus f x ≡ t → wayOf a t ≡ longer → value f (wholeIn f a x) ≡ withSign t (2 ^ low f)
+  away-one g p t s w =
+      let v = sent-value f (wayOf a (minus f x)) x (wholeIn f a x) (wholeIn-sent f a g x u h) in
+      let y = ap (wayOf a) s ∙ w in
+      let e = finite-is f x u h .counts in
+      let o = times (2 ^ low f) (longer-one u (2 ^ low f) p l) ∙ one-mul (2 ^ low f) in
+      v ∙ (λ i. withSign (s i) (whole (y i) (e i) (2 ^ low f) * 2 ^ low f)) ∙ ap (withSign t) o
 
 pub floor-rows : (f : Format) → Fair f → FloorRows f (floorOf f)
-floor-rows f g = record { rows = floor-whole-rows f; above-zero = floor-above-zero f; below-zero = floor-below-zero f g }
+unfolding floorOf
+floor-rows f g =
+    record {
+      rows = wholeIn-rows f toward-negative;
+      above-zero = λ x u h l s. toward-zero-none f toward-negative x u h l false s refl;
+      below-zero = λ x u h p l s. away-one f toward-negative x u h l g p true s refl;
+    }
 
 -- ---- what stays under one attribute stays under every other
 module _ (f : Format) (g : Fair f) (a b : Attribute) (x : ℕ) (p : Pattern f x) where

@@ -1,7 +1,7 @@
 -- The flags of a pattern x that was sent to r, by its magnitude; and those of trunc, floor and ceil. Assumes nothing.
 use Prim.Native.Nat.{ℕ, _≤_, _<_}
 use mathlib.Core.Path.{_≡_, sym, ap, _∙_}
-use mathlib.Core.Bool.{not}
+use mathlib.Core.Bool.{Bool, true, false, not}
 use native.Mathlib.Omega.{arith, both-ways}
 use lib.Dec.{eqb}
 use Rattle.algebra.proofs.Products.{order}
@@ -11,6 +11,7 @@ use Rattle.ieee.specs.Flags.{nanFlags, onlyInexact, signals}
 use Rattle.ieee.specs.Whole.{wholeIn, wholeFlagsBy, wholeFlagsIn, truncOf, truncFlags, floorOf, floorFlags, ceilOf, ceilFlags}
 use Rattle.ieee.proofs.Patterns.{kind-finite, kind-infinite, kind-nan}
 use Rattle.ieee.proofs.Signals.{infinite-silent}
+use Rattle.integral.specs.Directed.{directed, directedFlags}
 
 module _ (f : Format) (x r : ℕ) where
   pub number-flags : magnitude f x < inf f → onlyInexact (not (eqb r x)) ≡ wholeFlagsBy f x r (kind f x)
@@ -28,10 +29,7 @@ module _ (f : Format) (x r : ℕ) where
   unfolding truncOf truncFlags wholeFlagsIn
   trunc-raises e = ap (λ y. wholeFlagsBy f x y (kind f x)) e
 
-  pub floor-raises : r ≡ floorOf f x → wholeFlagsBy f x r (kind f x) ≡ floorFlags f x
-  unfolding floorOf floorFlags wholeFlagsIn
-  floor-raises e = ap (λ y. wholeFlagsBy f x y (kind f x)) e
-
-  pub ceil-raises : r ≡ ceilOf f x → wholeFlagsBy f x r (kind f x) ≡ ceilFlags f x
-  unfolding ceilOf ceilFlags wholeFlagsIn
-  ceil-raises e = ap (λ y. wholeFlagsBy f x y (kind f x)) e
+  pub directed-raises : (up : Bool) → r ≡ directed f up x → wholeFlagsBy f x r (kind f x) ≡ directedFlags f up x
+  unfolding ceilOf ceilFlags floorOf floorFlags wholeFlagsIn
+  directed-raises true e = ap (λ y. wholeFlagsBy f x y (kind f x)) e
+  directed-raises false e = ap (λ y. wholeFlagsBy f x y (kind f x)) e

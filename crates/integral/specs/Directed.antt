@@ -5,12 +5,17 @@ use mathlib.Core.Bool.{Bool, true, false, not, cond}
 use lib.Dec.{eqb}
 use Rattle.ieee.specs.Format.{Format, bias, inf}
 use Rattle.ieee.specs.Pattern.{minus, magnitude, signed}
-use Rattle.ieee.specs.Whole.{floorOf, ceilOf}
+use Rattle.ieee.specs.Flags.{Flags}
+use Rattle.ieee.specs.Whole.{floorOf, floorFlags, ceilOf, ceilFlags}
 
 -- up, or down
 abbrev pub directed : Format → Bool → ℕ → ℕ
 directed f true x = ceilOf f x
 directed f false x = floorOf f x
+
+abbrev pub directedFlags : Format → Bool → ℕ → Flags
+directedFlags f true x = ceilFlags f x
+directedFlags f false x = floorFlags f x
 
 -- whether that is away from zero
 abbrev pub goesAway : Format → Bool → ℕ → Bool

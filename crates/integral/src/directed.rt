@@ -1,11 +1,10 @@
 // floor and ceil alike: a number sent down, or up, to a whole number. The value alone needs no jump.
 ghost use mathlib.Core.Path.{_≡_};
-ghost use Rattle.ieee.specs.Pattern.{Pattern, minus, kind};
-ghost use Rattle.ieee.specs.Whole.{wholeFlagsBy};
+ghost use Rattle.ieee.specs.Pattern.{Pattern, minus};
 ghost use Rattle.fmt_fields.specs.Width.{format, Fits};
 ghost use Rattle.fmt_fields.specs.Raised.{flagsOf};
 ghost use Rattle.integral.specs.Point.{oneNan, Mask};
-ghost use Rattle.integral.specs.Directed.{directed, goesAway, onesIf, oneOrZero, belowOne, cutBy, Known};
+ghost use Rattle.integral.specs.Directed.{directed, directedFlags, goesAway, onesIf, oneOrZero, belowOne, cutBy, Known};
 use crate::point::bias;
 use crate::point::canonicalise;
 use crate::point::choose_by_point;
@@ -111,7 +110,7 @@ pub fn directed_pattern(frac: u32, expo: u32, x: u64, up: bool) -> u64
 pub fn directed_flags(frac: u32, expo: u32, x: u64, up: bool) -> Raised64
     requires { ⌜ Fits frac expo × Pattern (format frac expo) x ⌝ }
     ensures { λ r. ⌜ (r .value ≡ directed (format frac expo) up x) × Pattern (format frac expo) (r .value)
-        × (flagsOf (r .flags) ≡ wholeFlagsBy (format frac expo) x (r .value) (kind (format frac expo) x)) ⌝ }
+        × (flagsOf (r .flags) ≡ directedFlags (format frac expo) up x) ⌝ }
 {
     if is_number(frac, expo, x) {
         let r = direct(frac, expo, x, up, true);

@@ -69,7 +69,8 @@ fn modf_undivided(frac: u32, expo: u32, x: u64) -> Parted64
 
 fn modf_pattern(frac: u32, expo: u32, x: u64) -> Parted64
     requires { ⌜ Fits frac expo × Pattern (format frac expo) x ⌝ }
-    ensures { λ r. ⌜ (r .fraction ≡ modfOf (format frac expo) x) × (r .whole ≡ modfWhole (format frac expo) x) ⌝ }
+    ensures { λ r. ⌜ (r .fraction ≡ modfOf (format frac expo) x) × (r .whole ≡ modfWhole (format frac expo) x)
+        × Pattern (format frac expo) (r .fraction) × Pattern (format frac expo) (r .whole) ⌝ }
 {
     let n = exponent_of(frac, expo, x);
     if n < frac as u64 {

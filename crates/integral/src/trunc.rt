@@ -21,6 +21,18 @@ fn trunc_pattern(frac: u32, expo: u32, x: u64) -> u64
     clear_under(one, tail_mask(frac, expo, x))
 }
 
+fn trunc_flags(frac: u32, expo: u32, x: u64) -> Raised64
+    requires { ⌜ Fits frac expo × Pattern (format frac expo) x ⌝ }
+    ensures { λ r. ⌜ (r .value ≡ truncOf (format frac expo) x) × Pattern (format frac expo) (r .value)
+        × (flagsOf (r .flags) ≡ truncFlags (format frac expo) x) ⌝ }
+{
+    let r = trunc_pattern(frac, expo, x);
+    Raised64 {
+        value: r,
+        flags: flags(frac, expo, x, r),
+    }
+}
+
 pub fn trunc64(x: u64) -> u64
     ensures { λ r. ⌜ r ≡ truncOf b64 x ⌝ }
 {
@@ -30,11 +42,7 @@ pub fn trunc64(x: u64) -> u64
 pub fn trunc64_flags(x: u64) -> Raised64
     ensures { λ r. ⌜ (r .value ≡ truncOf b64 x) × (flagsOf (r .flags) ≡ truncFlags b64 x) ⌝ }
 {
-    let r = trunc64(x);
-    Raised64 {
-        value: r,
-        flags: flags(52, 11, x, r),
-    }
+    trunc_flags(52, 11, x)
 }
 
 pub fn trunc32(x: u32) -> u32
@@ -46,9 +54,10 @@ pub fn trunc32(x: u32) -> u32
 pub fn trunc32_flags(x: u32) -> Raised32
     ensures { λ r. ⌜ (r .value ≡ truncOf b32 x) × (flagsOf (r .flags) ≡ truncFlags b32 x) ⌝ }
 {
-    let r = trunc32(x);
+    let a = trunc_flags(23, 8, x as u64);
+    let raised = a.flags;
     Raised32 {
-        value: r,
-        flags: flags(23, 8, x as u64, r as u64),
+        value: a.value as u32,
+        flags: raised,
     }
 }

@@ -1,7 +1,11 @@
 -- A normal number is normalised as it stands (Method), and any other number is normalised; the rest is set aside (fmt_decode: Asides). Assumes nothing.
-use mathlib.Core.Path.{sym, _∙_}
+use Prim.Native.Nat.{ℕ}
+use mathlib.Core.Path.{_≡_, sym, _∙_, subst}
 use borrow.Author.Needs.{needs}
 use Rattle.ieee.specs.Format.{Format}
+use Rattle.ieee.specs.Pattern.{Pattern}
+use Rattle.ieee.specs.Frexp.{frexpOf}
+use Rattle.ieee.proofs.Frexps.{frexp-pattern}
 use Rattle.fmt_fields.specs.Width.{format}
 use Rattle.fmt_fields.proofs.Numbers.{infinity-some}
 use Rattle.fmt_fields.proofs.Normals.{normal-between}
@@ -19,6 +23,10 @@ number c =
     let s = c .before .before .before .before in
     ordinary (fmt s) (s .args .x) (infinity-some (s .pre .0)) (sym (c .before .is-zero-nan-inf .ensures) ∙ c .if2 .left)
 
+-- the fraction of a pattern is a pattern
+fraction-pattern : (s : tie.Start) (r : ℕ) → r ≡ frexpOf (fmt s) (s .args .x) → Pattern (fmt s) r
+fraction-pattern s r e = subst (Pattern (fmt s)) (sym e) (frexp-pattern (fmt s) (s .args .x) (s .pre .2))
+
 is-normal-requires : tie.Need-is-normal-requires
 is-normal-requires c κs = search needs
 
@@ -35,7 +43,9 @@ break-number-requires c κs =
     (s .pre .0, s .pre .1, o .least, o .most, unpacked-normalised (fmt s) (s .args .x) h (r .sig) (r .exp) (r .neg) (c .unpack-normal .ensures))
 
 returns : tie.Need-returns
-returns c = search needs
+returns c =
+    let (e, n) = c .break-number .ensures in
+    (e, n, fraction-pattern (c .before .before .before .before) (c .break-number .result .fraction) e)
 
 is-zero-nan-inf-requires : tie.Need-is-zero-nan-inf-requires
 is-zero-nan-inf-requires c κs = search needs
@@ -44,7 +54,9 @@ frexp-aside-requires : tie.Need-frexp-aside-requires
 frexp-aside-requires c κs = (c .before .before .before .before .pre .0, sym (c .before .is-zero-nan-inf .ensures) ∙ c .if2 .taken)
 
 returns-2 : tie.Need-returns-2
-returns-2 c = search needs
+returns-2 c =
+    let (e, n) = c .frexp-aside .ensures in
+    (e, n, fraction-pattern (c .before .before .before .before .before) (c .frexp-aside .result .fraction) e)
 
 norm-of-requires : tie.Need-norm-of-requires
 norm-of-requires c κs = (c .before .before .before .before .pre .0, number c .least)
@@ -56,7 +68,9 @@ break-number-requires-2 c κs =
     (s .pre .0, s .pre .1, o .least, o .most, c .norm-of .ensures)
 
 returns-3 : tie.Need-returns-3
-returns-3 c = search needs
+returns-3 c =
+    let (e, n) = c .break-number2 .ensures in
+    (e, n, fraction-pattern (c .before .before .before .before .before .before) (c .break-number2 .result .fraction) e)
 
 pub frexp-pattern-spec : {M : Type 1} → statement M
 frexp-pattern-spec =

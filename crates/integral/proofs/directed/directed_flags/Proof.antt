@@ -9,7 +9,7 @@ use Rattle.ieee.specs.Flags.{nanFlags}
 use Rattle.ieee.specs.Pattern.{Pattern, magnitude}
 use Rattle.fmt_fields.specs.Width.{format}
 use Rattle.integral.proofs.Directions.{past-numbers, directed-pattern}
-use Rattle.integral.proofs.Raises.{number-flags, rest-flags}
+use Rattle.integral.proofs.Raises.{number-flags, rest-flags, directed-raises}
 use Rattle.integral.proofs.directed.directed_flags.Statement.{statement}
 use Rattle.integral.proofs.directed.directed_flags.Tie as tie
 
@@ -27,7 +27,9 @@ returns c =
     let d = c .before in
     let n = d .before .before in
     let s = n .before in
-    (d .direct .ensures .0, d .direct .ensures .1, c .inexact-if .ensures ∙ number-flags (f s) (s .args .x) (d .direct .result) (number n (d .before .if1 .taken)))
+    let r = d .direct .result in
+    let (e, p) = d .direct .ensures in
+    (e, p, c .inexact-if .ensures ∙ number-flags (f s) (s .args .x) r (number n (d .before .if1 .taken)) ∙ directed-raises (f s) (s .args .x) r (s .args .up) e)
 
 returns-2 : tie.Need-returns-2
 returns-2 c =
@@ -36,7 +38,7 @@ returns-2 c =
     let s = n .before in
     let h = ltb-false (magnitude (f s) (s .args .x)) (inf (f s)) (sym (n .is-number .ensures) ∙ o .before .if1 .left) in
     let e = o .canonicalise .ensures ∙ past-numbers (f s) (s .pre .0 .fair) (s .args .up) (s .args .x) h in
-    let g = ap nanFlags (c .before .is-signalling .ensures) ∙ rest-flags (f s) (s .args .x) (o .canonicalise .result) h in
+    let g = ap nanFlags (c .before .is-signalling .ensures) ∙ rest-flags (f s) (s .args .x) (o .canonicalise .result) h ∙ directed-raises (f s) (s .args .x) (o .canonicalise .result) (s .args .up) e in
     (e, subst (Pattern (f s)) (sym e) (directed-pattern (f s) (s .pre .0 .fair) (s .args .up) (s .args .x) (s .pre .1)), c .invalid-if .ensures ∙ g)
 
 pub directed-flags-spec : {M : Type 1} → statement M
