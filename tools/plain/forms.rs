@@ -44,9 +44,9 @@ fn entry(
     Operation { name, task, format, form, shape }
 }
 
-/// Every name whose answer has flags: without an attribute, then with one. ceil
-/// came last and stands last: a name's draws go by where it stands, and so what
-/// is recorded of the others stays.
+/// Every name whose answer has flags: without an attribute, then with one, and
+/// ceil last. A name's draws go by where it stands: what is recorded of the
+/// others stays.
 pub fn flagged() -> impl Iterator<Item = &'static Operation> {
     let plain = OPERATIONS.iter().filter(|one| one.tells_flags());
     let (ceil, others): (Vec<_>, Vec<_>) = plain.partition(|one| one.task == Task::Ceil);
