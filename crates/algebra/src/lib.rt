@@ -1,1 +1,2 @@
 // Laws of whole numbers and integers: lemmas, no function.
+#![tactic(auto)]

@@ -4,7 +4,7 @@ use crate::text::Text;
 
 // Why a line is not a request, as the number of a text, or FINE. For an operand: its number, from 1 on, the text of its fault, its length in
 // characters, and the kind expected.
-#[derive(Drop)]
+#[derive(Clone, Copy)]
 pub struct Complaint {
     pub what: u8,
     pub index: u64,

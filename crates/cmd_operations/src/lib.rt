@@ -40,6 +40,7 @@
 //   read32.A TEXT       read32.zero 0x1p+128
 //   write64 X ROOM      write64 4008000000000000 24                   0 or refusal 8, the length of X's numeral, and the numeral where ROOM bytes hold it
 //   write32 X ROOM      write32 00000001 15
+#![tactic(auto)]
 pub mod complaint;
 pub mod line;
 pub mod operand;

@@ -5,7 +5,7 @@ use hex_write::write::{write_hex32, write_hex64};
 use text_lines::{write_signed, write_unsigned, write_word};
 
 // Up to sixteen pieces. A piece is a value, by the letter of its kind in the table; a star, for all names of that table; or a text of ours, by its number.
-#[derive(Drop)]
+#[derive(Clone, Copy)]
 pub struct Line {
     pub codes: [u8; 16],
     pub values: [u64; 16],
@@ -16,7 +16,7 @@ pub struct Line {
 
 // The answers of an operation: words and numbers by their index, and the signed number if there is one. A text stands elsewhere; the answer before it is
 // its length.
-#[derive(Drop)]
+#[derive(Clone, Copy)]
 pub struct Answers {
     pub x: u64,
     pub y: u64,

@@ -6,7 +6,7 @@ use hex_read::read::{read_hex32, read_hex64};
 use text_lines::{Fault, Field, Signed, read_signed, read_unsigned, read_word};
 
 // What was read: its value or signed number, or its fault.
-#[derive(Drop)]
+#[derive(Clone, Copy)]
 pub struct Taken {
     pub value: u64,
     pub n: i32,

@@ -10,7 +10,7 @@ use crate::text::Text;
 use text_lines::{find, has_blank_too_many, part};
 
 // The operands of a request: words, numbers and the length of a text by their index; the signed number and the attribute, if any.
-#[derive(Drop)]
+#[derive(Clone, Copy)]
 pub struct Operands {
     pub x: u64,
     pub y: u64,
@@ -20,7 +20,7 @@ pub struct Operands {
 }
 
 // The request of a line, where its complaint is `FINE`.
-#[derive(Drop)]
+#[derive(Clone, Copy)]
 pub struct Request {
     pub row: Row,
     pub operands: Operands,

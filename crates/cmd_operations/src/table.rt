@@ -64,7 +64,7 @@ away --- ---
 const STEP: usize = 9;
 
 // The number of a row, and the offset of its kinds in the table. An unknown name has the row past the last.
-#[derive(Drop)]
+#[derive(Clone, Copy)]
 pub struct Row {
     pub number: usize,
     pub kinds: usize,

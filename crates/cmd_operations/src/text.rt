@@ -2,7 +2,7 @@
 use text_lines::{find, part, write_bytes};
 
 // The texts by name, in the order in which `TEXTS` has them.
-#[derive(Drop)]
+#[derive(Clone, Copy)]
 pub enum Text {
     Arrow,
     Blank,

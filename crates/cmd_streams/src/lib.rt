@@ -1,4 +1,5 @@
 // Standard input and output of the programs, messages where they fail, and the verdict at the end.
+#![tactic(auto)]
 use libc::{STDERR_FILENO, STDIN_FILENO, STDOUT_FILENO};
 use text_lines::Field;
 
@@ -8,7 +9,7 @@ const ORDER: i32 = 5;
 // The descriptor that the number of bad lines is written to. Without that number the run did not finish.
 const VERDICT: i32 = 3;
 
-#[derive(Drop)]
+#[derive(Clone, Copy)]
 pub struct Streams {
     // The bytes of output not yet written.
     pub used: usize,
@@ -19,13 +20,13 @@ pub struct Streams {
 }
 
 // The result of one read: the number of bytes, 0 where the input ended or could not be read.
-#[derive(Drop)]
+#[derive(Clone, Copy)]
 pub struct Taken {
     pub streams: Streams,
     pub count: usize,
 }
 
-#[derive(Drop)]
+#[derive(Clone, Copy)]
 pub enum Asked {
     Number(u32),
     Nothing,

@@ -1,4 +1,5 @@
 // The operations with their flags as a record of five bools.
+#![tactic(auto)]
 ghost use Rattle.std.specs.Prelude.{◌≡◌};
 ghost use Rattle.ieee.specs.Format.{b64, b32};
 ghost use Rattle.ieee.specs.Fma.{fma_of, fma_flags};
@@ -13,7 +14,7 @@ use fmt_fields::env::Raised;
 pub mod rounded;
 
 // The exceptions of IEEE 754, clause 7, raised or not.
-#[derive(Drop)]
+#[derive(Clone, Copy)]
 pub struct Flags {
     pub invalid: bool,
     pub division_by_zero: bool,
@@ -22,13 +23,13 @@ pub struct Flags {
     pub inexact: bool,
 }
 
-#[derive(Drop)]
+#[derive(Clone, Copy)]
 pub struct Flagged64 {
     pub value: u64,
     pub flags: Flags,
 }
 
-#[derive(Drop)]
+#[derive(Clone, Copy)]
 pub struct Flagged32 {
     pub value: u32,
     pub flags: Flags,

@@ -9,14 +9,14 @@ use crate::{Flags, record_of};
 use fmt_fields::numbered::{Answer32, Answer64};
 
 // The number of a refusal, 0 where the call is done; the value and the flags, zero and none where it is refused.
-#[derive(Drop)]
+#[derive(Clone, Copy)]
 pub struct Rounded64 {
     pub refusal: u32,
     pub value: u64,
     pub flags: Flags,
 }
 
-#[derive(Drop)]
+#[derive(Clone, Copy)]
 pub struct Rounded32 {
     pub refusal: u32,
     pub value: u32,

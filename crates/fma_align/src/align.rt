@@ -10,20 +10,20 @@ use round_wide::sticky::{shr_sticky, shr_sticky_wide};
 use word_wide::Wide;
 
 // How far one exponent is below another, and how far above. One of the two is 0.
-#[derive(Drop)]
+#[derive(Clone, Copy)]
 pub struct Sides {
     pub below: u32,
     pub above: u32,
 }
 
-#[derive(Drop)]
+#[derive(Clone, Copy)]
 pub struct AlignedWide {
     pub product: Wide,
     pub third: Wide,
     pub down: u32,
 }
 
-#[derive(Drop)]
+#[derive(Clone, Copy)]
 pub struct Aligned {
     pub product: u64,
     pub third: u64,

@@ -9,7 +9,7 @@ use word_wide::Wide;
 use word_wide::product::mul;
 
 // A two-word product, with its exponent and its sign.
-#[derive(Drop)]
+#[derive(Clone, Copy)]
 pub struct ProductWide {
     pub sig: Wide,
     pub exp: i32,
@@ -17,7 +17,7 @@ pub struct ProductWide {
 }
 
 // A one-word product, with its exponent and its sign.
-#[derive(Drop)]
+#[derive(Clone, Copy)]
 pub struct Product {
     pub sig: u64,
     pub exp: i32,

@@ -7,13 +7,13 @@ ghost use Rattle.fma_laws.specs.Aligned.{joined, joined_sign};
 use word_wide::Wide;
 use word_wide::sum::{add, less, sub};
 
-#[derive(Drop)]
+#[derive(Clone, Copy)]
 pub struct SignedSumWide {
     pub sum: Wide,
     pub neg: bool,
 }
 
-#[derive(Drop)]
+#[derive(Clone, Copy)]
 pub struct SignedSum {
     pub sum: u64,
     pub neg: bool,

@@ -19,7 +19,7 @@ use round_locate::locate::{Located, locate};
 use round_wide::fold::add_to_exponent;
 
 // So many steps of 2^exp, negative where neg is set.
-#[derive(Drop)]
+#[derive(Clone, Copy)]
 pub struct Sum {
     pub steps: u64,
     pub exp: i32,

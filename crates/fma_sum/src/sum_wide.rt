@@ -20,7 +20,7 @@ use round_wide::fold::{add_to_exponent, fold};
 use word_wide::Wide;
 
 // So many steps of 2^exp, negative where neg is set.
-#[derive(Drop)]
+#[derive(Clone, Copy)]
 pub struct SumWide {
     pub steps: Wide,
     pub exp: i32,

@@ -16,7 +16,7 @@ use fmt_fields::pattern::{magnitude_of, nan};
 use fmt_fields::{exponent_field, is_negative, with_sign};
 
 // Significands to reduce: sig times 2^shift modulo by.
-#[derive(Drop)]
+#[derive(Clone, Copy)]
 pub struct Division {
     pub sig: u64,
     pub shift: u32,

@@ -12,7 +12,7 @@ use fmt_fields::{exponent_field, fraction_field, is_negative, is_normal};
 use word_bits::pow;
 
 // sig times 2^exp, negative where neg is set.
-#[derive(Drop)]
+#[derive(Clone, Copy)]
 pub struct Norm {
     pub sig: u64,
     pub exp: i32,

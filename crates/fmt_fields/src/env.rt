@@ -4,26 +4,26 @@ ghost use Rattle.ieee.specs.Flags.{none, only_inexact, nan_flags, judged, flag_w
 ghost use Rattle.fmt_fields.specs.Raised.{flags_of};
 
 // The exceptions of IEEE 754, clause 7, that were raised, by libm's bits: in a word the compiler moves them as one.
-#[derive(Drop)]
+#[derive(Clone, Copy)]
 pub struct Raised {
     pub bits: u32,
 }
 
 // A pattern with the flags that it came with.
-#[derive(Drop)]
+#[derive(Clone, Copy)]
 pub struct Raised64 {
     pub value: u64,
     pub flags: Raised,
 }
 
-#[derive(Drop)]
+#[derive(Clone, Copy)]
 pub struct Raised32 {
     pub value: u32,
     pub flags: Raised,
 }
 
 // The attributes of rounding, clause 4.3, in the order of their numbers.
-#[derive(Drop)]
+#[derive(Clone, Copy)]
 pub enum Attribute {
     Even,
     Zero,

@@ -7,14 +7,14 @@ ghost use Rattle.fmt_fields.specs.Numbered.{Names, answer64, answer32};
 use crate::env::{Attribute, Raised, Raised32, Raised64, no_flags};
 
 // The number of a refusal is 0 where the call is done.
-#[derive(Drop)]
+#[derive(Clone, Copy)]
 pub struct Answer64 {
     pub refusal: u32,
     pub value: u64,
     pub flags: Raised,
 }
 
-#[derive(Drop)]
+#[derive(Clone, Copy)]
 pub struct Answer32 {
     pub refusal: u32,
     pub value: u32,

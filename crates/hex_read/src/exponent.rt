@@ -7,7 +7,7 @@ ghost use Rattle.hex_read.specs.Found.{ExponentAs};
 use text_numbers::digits::{Digits, read_digits};
 
 // An exponent by its sign and its size; where the text has none, it is not valid.
-#[derive(Drop)]
+#[derive(Clone, Copy)]
 pub struct Exponent {
     pub valid: bool,
     pub neg: bool,

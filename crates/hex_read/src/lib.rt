@@ -1,4 +1,5 @@
 // The hex reader: a hexadecimal numeral, rounded once.
+#![tactic(auto)]
 pub mod exponent;
 pub mod number;
 pub mod numeral;

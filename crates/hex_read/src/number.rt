@@ -8,7 +8,7 @@ use crate::exponent::read_exponent;
 use crate::scan::{Lead, no_digits, scan_digits};
 
 // sig times 2^(up - down), sig with its sticky mark; not valid where the text is no number.
-#[derive(Drop)]
+#[derive(Clone, Copy)]
 pub struct Number {
     pub valid: bool,
     pub sig: u64,

@@ -19,7 +19,7 @@ use fmt_fields::with_sign;
 use round_step::round::round;
 
 // A pattern, if the text says one.
-#[derive(Drop)]
+#[derive(Clone, Copy)]
 pub struct Found {
     pub valid: bool,
     pub value: u64,

@@ -12,13 +12,13 @@ use fmt_fields::env::Attribute;
 use fmt_fields::numbered::{attribute_of, is_attribute};
 
 // The number of a refusal is 0 where the text is read.
-#[derive(Drop)]
+#[derive(Clone, Copy)]
 pub struct ReadHex64 {
     pub refusal: u32,
     pub value: u64,
 }
 
-#[derive(Drop)]
+#[derive(Clone, Copy)]
 pub struct ReadHex32 {
     pub refusal: u32,
     pub value: u32,

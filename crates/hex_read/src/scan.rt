@@ -4,7 +4,7 @@ ghost use Rattle.text_numbers.specs.Digits.{digit_of};
 ghost use Rattle.hex_read.specs.Scanned.{Holds, Scanned};
 
 // The digits that a word keeps, how many others follow them, and whether one of those is not zero.
-#[derive(Drop)]
+#[derive(Clone, Copy)]
 pub struct Lead {
     pub sig: u64,
     pub extra: u32,
@@ -12,7 +12,7 @@ pub struct Lead {
 }
 
 // What is held after the digits at the front of a text, and the offset of the first byte that is none.
-#[derive(Drop)]
+#[derive(Clone, Copy)]
 pub struct Scan {
     pub lead: Lead,
     pub end: usize,

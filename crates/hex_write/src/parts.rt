@@ -7,14 +7,14 @@ use text_numbers::write::digit_count;
 use word_bits::pow;
 
 // The digits behind the point, as one number, and how many there are.
-#[derive(Drop)]
+#[derive(Clone, Copy)]
 pub struct Fraction {
     pub digits: u64,
     pub count: usize,
 }
 
 // An exponent by its sign and its size, and how many decimal digits that has.
-#[derive(Drop)]
+#[derive(Clone, Copy)]
 pub struct Exponent {
     pub below: bool,
     pub size: u64,

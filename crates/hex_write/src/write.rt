@@ -15,7 +15,7 @@ use text_numbers::write::write_bytes;
 use word_bits::pow;
 
 // The number of the refusal, 0 where the text is written, and its length.
-#[derive(Drop)]
+#[derive(Clone, Copy)]
 pub struct WrittenHex {
     pub refusal: u32,
     pub length: u32,

@@ -1,1 +1,2 @@
 // Laws of hexadecimal numerals, read and written: definitions and lemmas, no function.
+#![tactic(auto)]

@@ -12,13 +12,13 @@ use fmt_fields::pattern::{infinity, magnitude_of, nan};
 use fmt_fields::{exponent_field, is_negative, with_sign};
 
 // What is behind the point, and what is before it.
-#[derive(Drop)]
+#[derive(Clone, Copy)]
 pub struct Parted64 {
     pub fraction: u64,
     pub whole: u64,
 }
 
-#[derive(Drop)]
+#[derive(Clone, Copy)]
 pub struct Parted32 {
     pub fraction: u32,
     pub whole: u32,

@@ -1,2 +1,3 @@
 // nextafter: the next number from x toward y.
+#![tactic(auto)]
 pub mod nextafter;

@@ -1,4 +1,5 @@
 // The face: the operations, re-exported, and the same as C functions on whole numbers.
+#![tactic(auto)]
 ghost use Rattle.std.specs.Prelude.{◌≡◌};
 ghost use Rattle.ieee.specs.Flags.{flag_word};
 ghost use Rattle.ieee.specs.Format.{b64, b32};

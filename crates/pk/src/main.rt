@@ -1,4 +1,5 @@
 // Answers the requests on standard input, one line for each, and then writes the number of bad lines.
+#![tactic(auto)]
 mod call;
 mod reply;
 
@@ -8,7 +9,7 @@ use text_lines::Kept;
 // The most that one line can add to the output.
 const ROOM: usize = 1024;
 
-#[derive(Drop)]
+#[derive(Clone, Copy)]
 struct State {
     // The kept part of the current line.
     kept: Kept,

@@ -10,7 +10,7 @@ use cmd_operations::text::Text;
 use text_lines::{find_arrow, part, write_bytes};
 
 // What was written: the offset after it, and whether the line is bad.
-#[derive(Drop)]
+#[derive(Clone, Copy)]
 pub struct Reply {
     pub end: usize,
     pub is_bad: bool,

@@ -4,6 +4,7 @@
 // The list call takes a piece at a time: the lines that one read completes, at most 8,192 of them. A line that is not a pattern keeps its place in
 // the piece, with a mark beside it. The operation's number is read from descriptor 5 once there is something to answer, and passed on
 // unchecked: the list call judges it.
+#![tactic(auto)]
 ghost use Rattle.std.specs.Prelude.{◌≡◌, ◌<◌, ◌≤◌};
 
 mod pieces;
@@ -19,7 +20,7 @@ const PLACES: usize = 8192;
 // How many lines are answered between two progress lines.
 const STRETCH: u64 = 10000000;
 
-#[derive(Drop)]
+#[derive(Clone, Copy)]
 struct State {
     // The kept part of the current line, and how many bytes it has so far.
     kept: Kept,

@@ -16,7 +16,7 @@ use text_lines::write_bytes;
 const ROOM: usize = 256;
 
 // A piece: its number, the lines before it, and its places, each a line.
-#[derive(Drop)]
+#[derive(Clone, Copy)]
 pub struct Piece {
     pub number: u64,
     pub before: u64,
@@ -24,7 +24,7 @@ pub struct Piece {
 }
 
 // The streams afterwards, and how many of the piece's lines were bad.
-#[derive(Drop)]
+#[derive(Clone, Copy)]
 pub struct Answered {
     pub streams: Streams,
     pub bad: u64,

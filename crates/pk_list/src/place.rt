@@ -11,7 +11,7 @@ use text_lines::{Field, find, read_word, write_word};
 
 // A line as a place of a list: its pattern, with the mark 0. A line that is not a pattern has the mark of its fault, and zero for its
 // pattern, so that the lines after it keep their places.
-#[derive(Drop)]
+#[derive(Clone, Copy)]
 pub struct Place {
     pub pattern: u64,
     pub mark: u64,

@@ -1,1 +1,2 @@
 // The promise, theorem by theorem, in reading order.
+#![tactic(auto)]

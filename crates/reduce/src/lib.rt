@@ -1,4 +1,5 @@
 // The reduction, x times 2^e modulo y, with a refusal for input outside the limits.
+#![tactic(auto)]
 ghost use Rattle.std.specs.Prelude.{◌≡◌, ◌<◌, ◌^◌};
 
 pub mod plain;
@@ -6,13 +7,13 @@ pub mod reduce;
 pub mod refusal;
 
 // The refusal, 0 where the reduction is done, and the value, 0 where it is refused.
-#[derive(Drop)]
+#[derive(Clone, Copy)]
 pub struct Reduced64 {
     pub refusal: u32,
     pub value: u64,
 }
 
-#[derive(Drop)]
+#[derive(Clone, Copy)]
 pub struct Reduced32 {
     pub refusal: u32,
     pub value: u32,

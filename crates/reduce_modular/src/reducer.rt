@@ -10,7 +10,7 @@ use word_wide::shift::shl;
 use word_wide::sum::add;
 
 // For the divisor n: m is 2n, and with R = 2^64 and RR/2 = qm + r the remainder x is kept as 2xq. Only `new` needs q itself.
-#[derive(Drop)]
+#[derive(Clone, Copy)]
 pub struct Reducer {
     pub m: u64,
     pub r: u64,
@@ -18,7 +18,7 @@ pub struct Reducer {
 }
 
 // The state after a step, and the quotient of the step.
-#[derive(Drop)]
+#[derive(Clone, Copy)]
 pub struct Step {
     pub state: Reducer,
     pub quotient: u64,

@@ -3,14 +3,14 @@ ghost use Rattle.std.specs.Prelude.{◌≡◌, ◌+◌, ◌*◌, ◌/◌, ◌%�
 ghost use Rattle.remquo.specs.Nearest.{goes_up, counted, left_over};
 
 // The remainder, and the last 32 bits of the quotient.
-#[derive(Drop)]
+#[derive(Clone, Copy)]
 pub struct Division {
     pub rem: u64,
     pub quo: u32,
 }
 
 // The nearest multiple: whether it is the next one or the one below, its distance, and the last 32 bits of its number.
-#[derive(Drop)]
+#[derive(Clone, Copy)]
 pub struct Choice {
     pub up: bool,
     pub rest: u64,

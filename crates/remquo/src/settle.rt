@@ -12,7 +12,7 @@ use fmt_decode::pack::pack;
 use fmt_fields::with_sign;
 
 // The remainder and the quotient, at any width.
-#[derive(Drop)]
+#[derive(Clone, Copy)]
 pub struct Remquo {
     pub value: u64,
     pub quotient: i32,

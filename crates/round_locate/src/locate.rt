@@ -17,7 +17,7 @@ const LIFT: u32 = 2097152;
 // The lower neighbour and the location, which decide every rounding; and for the flags, whether the value is three quarters of the way to the next number or
 // more, whether it is at that number or past it, as only a value past the largest one is, and whether the neighbour is far enough from both ends of the range
 // that inexact alone can be raised.
-#[derive(Drop)]
+#[derive(Clone, Copy)]
 pub struct Located {
     pub below: u64,
     pub location: u64,

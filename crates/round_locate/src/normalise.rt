@@ -4,7 +4,7 @@ ghost use Rattle.std.specs.Int.Signed.{mag};
 ghost use Rattle.std.specs.Int.Count.{count_leading_zeros};
 
 // The exponent is offset by 2^21, so that it is never negative and the comparisons that follow are of whole numbers.
-#[derive(Drop)]
+#[derive(Clone, Copy)]
 pub struct Normal {
     pub sig: u64,
     pub at: u32,

@@ -4,7 +4,7 @@ ghost use Rattle.round_laws.specs.Location.{part, high_part};
 
 use word_bits::pow;
 
-#[derive(Drop)]
+#[derive(Clone, Copy)]
 pub struct ShiftedOut {
     pub kept: u64,
     pub location: u64,

@@ -18,7 +18,7 @@ use fmt_fields::with_sign;
 use round_locate::locate::{Located, locate};
 
 // A pattern with the flags of its rounding.
-#[derive(Drop)]
+#[derive(Clone, Copy)]
 pub struct Rounded {
     pub bits: u64,
     pub flags: Raised,

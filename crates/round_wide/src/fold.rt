@@ -10,7 +10,7 @@ use word_bits::shl_carry;
 use word_wide::Wide;
 
 // A number without its last `down` bits, which left a sticky mark.
-#[derive(Drop)]
+#[derive(Clone, Copy)]
 pub struct Folded {
     pub sig: u64,
     pub down: u32,

@@ -1,16 +1,17 @@
 // The root of a whole number, digit by digit: rounded down, and whether it is exact.
+#![tactic(auto)]
 ghost use Rattle.std.specs.Prelude.{◌≡◌, ◌+◌, ◌*◌, ◌≤◌, ◌<◌, ◌^◌, eqb};
 ghost use Rattle.sqrt_digits.specs.Floor.{FloorRoot, pairs};
 
 // A root rounded down, and whether its square is the number. A contract by `FloorRoot` leaves one root: `floor_unique` (proofs/Digits.antt).
-#[derive(Drop)]
+#[derive(Clone, Copy)]
 pub struct RootFloor {
     pub root: u64,
     pub exact: bool,
 }
 
 // A root rounded down, and its residual.
-#[derive(Drop)]
+#[derive(Clone, Copy)]
 struct PartialRoot {
     root: u64,
     rem: u64,

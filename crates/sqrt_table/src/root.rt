@@ -9,14 +9,14 @@ ghost use Rattle.sqrt_table.specs.Residual.{Residual};
 use word_wide::product::{mul_hi, mul_lo};
 
 // A whole number next to a root, and its residual: the number less its square.
-#[derive(Drop)]
+#[derive(Clone, Copy)]
 pub struct NearRoot {
     pub root: u64,
     pub rem: u64,
 }
 
 // The start of a round on half words: √m by the guess, and 3 less the product of both.
-#[derive(Drop)]
+#[derive(Clone, Copy)]
 struct Round {
     root: u64,
     factor: u64,

@@ -9,7 +9,7 @@ use text_numbers::write::write_bytes;
 pub const KEPT: usize = 256;
 
 // How many bytes are kept, and whether there were more.
-#[derive(Drop)]
+#[derive(Clone, Copy)]
 pub struct Kept {
     pub held: usize,
     pub is_long: bool,

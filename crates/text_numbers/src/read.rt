@@ -5,7 +5,7 @@ ghost use Rattle.text_numbers.specs.Fields.{field_of, word_of, leads_with_zero, 
 use crate::digits::{Digits, read_decimal, read_digits};
 
 // The faults of a field.
-#[derive(Drop)]
+#[derive(Clone, Copy)]
 pub enum Fault {
     WrongLength,
     WrongDigit,
@@ -15,13 +15,13 @@ pub enum Fault {
     OutOfRange,
 }
 
-#[derive(Drop)]
+#[derive(Clone, Copy)]
 pub enum Field {
     Value(u64),
     Not(Fault),
 }
 
-#[derive(Drop)]
+#[derive(Clone, Copy)]
 pub enum Signed {
     Integer(i32),
     NoInteger(Fault),

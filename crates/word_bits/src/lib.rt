@@ -1,8 +1,9 @@
 // Powers of two and shifts of a word that keep track of the bits they drop.
+#![tactic(auto)]
 ghost use Rattle.std.specs.Prelude.{◌≡◌, ◌*◌, ◌/◌, ◌%◌, ◌-◌, ◌<◌, ◌^◌, ltb};
 
 // A word shifted right, and whether a nonzero bit was dropped.
-#[derive(Drop)]
+#[derive(Clone, Copy)]
 pub struct ShiftedWord {
     pub word: u64,
     pub lost: bool,

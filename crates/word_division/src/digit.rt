@@ -3,14 +3,14 @@ ghost use Rattle.std.specs.Prelude.{◌≡◌, ◌+◌, ◌-◌, ◌*◌, ◌/�
 ghost use Rattle.word_division.specs.Estimates.{divided};
 
 // A quotient and its remainder.
-#[derive(Drop)]
+#[derive(Clone, Copy)]
 pub struct Divided {
     pub quotient: u64,
     pub remainder: u64,
 }
 
 // A digit that may be too large, and the rest of the upper part: the upper part less digit times the divisor's upper half.
-#[derive(Drop)]
+#[derive(Clone, Copy)]
 pub struct Estimate {
     pub digit: u64,
     pub rest: u64,

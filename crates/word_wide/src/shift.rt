@@ -6,7 +6,7 @@ use crate::Wide;
 pub use word_bits::{ShiftedWord, low_bits, pow, shl_carry, shr_carry, shr_lost};
 
 // Two words shifted right, and whether a nonzero bit was dropped.
-#[derive(Drop)]
+#[derive(Clone, Copy)]
 pub struct ShiftedWide {
     pub wide: Wide,
     pub lost: bool,
