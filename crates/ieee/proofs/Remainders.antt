@@ -157,8 +157,8 @@ fmod_rows f =
     record {
       nan_x = λ x y e. rw e;
       infinite_x = λ x y e. rw e;
-      nan_y = λ x y e. rw e (divide_by_nan _ _ _ (kind f x));
-      zero_y = λ x y e. rw e (divide_by_zero _ _ _ (kind f x));
+      nan_y = λ x y e. rw e (divide_by_nan _ _ (λ u v. signed f (minus f x) (exactly f (left u v))) (kind f x));
+      zero_y = λ x y e. rw e (divide_by_zero _ _ (λ u v. signed f (minus f x) (exactly f (left u v))) (kind f x));
       infinite_y = λ x y u e k. rw (e, k);
       below_y = fmod_below f;
       zero_x = λ x y v p e k. fmod_below f x y 0 (suc v) p e k (omega arith);

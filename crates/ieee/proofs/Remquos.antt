@@ -171,8 +171,10 @@ remquo_rows f =
     record {
       nan_x = λ x y e. rw e (refl, refl);
       infinite_x = λ x y e. rw e (refl, refl);
-      nan_y = λ x y e. rw e (divide_by_nan _ _ _ (kind f x), divide_by_nan _ _ _ (kind f x));
-      zero_y = λ x y e. rw e (divide_by_zero _ _ _ (kind f x), divide_by_zero _ _ _ (kind f x));
+      nan_y = λ x y e. rw e
+          (divide_by_nan _ _ (λ u v. rest f (minus f x) u (whole even u v * v)) (kind f x), divide_by_nan _ _ (λ u v. with_sign (unlike (minus f x) (minus f y)) (whole even u v % 2 ^ 31)) (kind f x));
+      zero_y = λ x y e. rw e
+          (divide_by_zero _ _ (λ u v. rest f (minus f x) u (whole even u v * v)) (kind f x), divide_by_zero _ _ (λ u v. with_sign (unlike (minus f x) (minus f y)) (whole even u v % 2 ^ 31)) (kind f x));
       infinite_y = λ x y u e k. rw (e, k) (refl, refl);
       below_half_y = remquo_below f;
       zero_x = λ x y v p e k. remquo_below f x y 0 v p e k (omega arith);

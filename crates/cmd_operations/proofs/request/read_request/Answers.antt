@@ -1,0 +1,31 @@
+-- `cmd_operations::request::read_request` meets its contract: the row is that of the name, and nothing after it changes the row. Assumes nothing.
+use Rattle.std.proofs.Common.{◌≡◌, ℕ, ◌+◌, min, List, ◌∷◌, ap, ◌∙◌, ⊎_elim}
+use Rattle.text_lines.specs.Offsets.{offset_of, part_of}
+use Rattle.cmd_operations.specs.declared.request.Request.{Request}
+use Rattle.cmd_operations.specs.declared.table.Row.{Row}
+use Rattle.cmd_operations.specs.Request.{name_of}
+use Rattle.cmd_operations.specs.Table.{row_of}
+use Rattle.cmd_operations.proofs.request.read_request.Goals as goal
+
+-- the row by the steps of the code
+row-of-name : (s : List ℕ) {name : List ℕ} {dot blank end : ℕ} {row : Row}
+    → row ≡ row_of name → name ≡ part_of s 0 end → end ≡ min (dot + 1) blank → dot ≡ offset_of (46 ∷ []) s 0 → blank ≡ offset_of (32 ∷ []) s 0
+    → row ≡ row_of (name_of s)
+unfolding name_of
+row-of-name s r n e d b = rw (r, n, e, d, b)
+
+pub returns-then-flaw : goal.returns-then-flaw
+returns-then-flaw c =
+    c.new_request-r.ensures
+    ∙ row-of-name _ c.row_of-row.ensures c.part.ensures c.name_end-from.ensures c.find-dot.ensures.0 c.find-end.ensures.0
+
+pub returns-then-r : goal.returns-then-r
+returns-then-r c =
+    ⊎_elim (λ w. ap (λ (r : Request). r.row) w.3 ∙ w.2.ensures) (λ w. ap (λ (r : Request). r.row) w.1) c.if-dot-end.branch ∙ c.new_request-r.ensures
+    ∙ row-of-name _ c.row_of-row.ensures c.part.ensures c.name_end-from.ensures c.find-dot.ensures.0 c.find-end.ensures.0
+
+pub returns : goal.returns
+returns c =
+    c.read_operands.ensures
+    ∙ ⊎_elim (λ w. ap (λ (r : Request). r.row) w.3 ∙ w.2.ensures) (λ w. ap (λ (r : Request). r.row) w.1) c.if-dot-end.branch ∙ c.new_request-r.ensures
+    ∙ row-of-name _ c.row_of-row.ensures c.part.ensures c.name_end-from.ensures c.find-dot.ensures.0 c.find-end.ensures.0

@@ -1,7 +1,0 @@
--- The record of the flags that the call gave. Assumes nothing.
-use mathlib.Core.Path.{◌∙◌}
-use Rattle.flagged.proofs.floor32_flags.Statement.{statement}
-use Rattle.flagged.proofs.floor32_flags.Tie as tie
-
-pub floor32-flags-spec : {M : Type 1} → statement M
-floor32-flags-spec = tie.close (tie.spec (λ c κs. tt) (λ c κs. tt) (λ c. let (v, f) = c.before.before.floor32-flags.ensures in (v, c.record_of.ensures ∙ f)))

@@ -1,7 +1,0 @@
--- The record of the flags that the call gave. Assumes nothing.
-use mathlib.Core.Path.{◌∙◌}
-use Rattle.flagged.proofs.fma64_flags.Statement.{statement}
-use Rattle.flagged.proofs.fma64_flags.Tie as tie
-
-pub fma64-flags-spec : {M : Type 1} → statement M
-fma64-flags-spec = tie.close (tie.spec (λ c κs. tt) (λ c κs. tt) (λ c. let (v, f) = c.before.before.fma64-flags.ensures in (v, c.record_of.ensures ∙ f)))

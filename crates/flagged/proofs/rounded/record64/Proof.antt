@@ -1,7 +1,0 @@
--- The flags are those of the record. Assumes nothing.
-use mathlib.Core.Path.{ap}
-use Rattle.flagged.proofs.rounded.record64.Statement.{statement}
-use Rattle.flagged.proofs.rounded.record64.Tie as tie
-
-pub record64-spec : {M : Type 1} → statement M
-record64-spec = tie.close (tie.spec (λ c κs. tt) (λ c. ap (λ f. record { number = c.before.before.args.a.refusal; value = c.before.before.args.a.value; flags = f }) c.record_of.ensures))

@@ -1,7 +1,0 @@
--- The record of the answer that the call gave. Assumes nothing.
-use mathlib.Core.Path.{◌∙◌}
-use Rattle.flagged.proofs.rounded.sqrt64_rounded.Statement.{statement}
-use Rattle.flagged.proofs.rounded.sqrt64_rounded.Tie as tie
-
-pub sqrt64-rounded-spec : {M : Type 1} → statement M
-sqrt64-rounded-spec = tie.close (tie.spec (λ c κs. tt) (λ c κs. tt) (λ c. c.record64.ensures ∙ c.before.sqrt64-rounded.ensures))

@@ -1,6 +1,0 @@
--- No flag is that of the definition. Assumes nothing.
-use Rattle.fmt_fields.proofs.numbered.refuse32.Statement.{statement}
-use Rattle.fmt_fields.proofs.numbered.refuse32.Tie as tie
-
-pub refuse32-spec : {M : Type 1} → statement M
-refuse32-spec = tie.close (tie.spec (λ c κs. tt) (λ c. λ i. record { number = 10; value = 0; flags = c.no-flags.ensures i }))

@@ -1,0 +1,32 @@
+-- An exponent and the fraction's bits are small beside a signed word (fmt_decode: Ranges). Assumes nothing.
+use mathlib.Core.Path.{◌≡◌}
+use native.Mathlib.Omega.{arith}
+use lib.IntN.{ℤ, pos, ◌+ℤ◌}
+use mir.Syntax.{w32}
+use mir.Val.{SFits, to_z}
+use mir.Facts.{to_z-of_z, to_z_pos}
+use Rattle.algebra.proofs.Integers.{add_z, sfits_z}
+use Rattle.fmt_decode.proofs.Ranges.{low_small, range_bounds, range_fits}
+use Rattle.frexp.proofs.ilogb.leading_exponent.Goals as goal
+
+module _ (s : goal.Start) where
+  abbrev exp : ℤ
+  exp = s.args.n.exp
+
+  exp-fits : SFits w32 exp
+  exp-fits = range_fits s.pre.0 exp s.pre.1
+
+  frac_pos : to_z w32 s.args.frac ≡ pos s.args.frac
+  frac_pos = to_z_pos w32 (omega (arith, s.pre.0.word))
+
+  sum_fits : SFits w32 (exp +ℤ pos s.args.frac)
+  sum_fits =
+      let b = range_bounds s.pre.0 exp s.pre.1 in
+      let a = add_z exp (pos s.args.frac) in
+      sfits_z w32 (exp +ℤ pos s.args.frac) (omega (arith, s.pre.0.word)) (omega (arith, low_small s.pre.0, s.pre.0.word))
+
+pub overflow_add-result : goal.overflow_add-result
+overflow_add-result c = let s = c.before.before in simp (to_z-of_z, exp-fits s, frac_pos s) (sum_fits s)
+
+pub returns : goal.returns
+returns c = let s = c.before.before in simp (to_z-of_z, exp-fits s, frac_pos s, sum_fits s)

@@ -1,8 +1,0 @@
--- The word of the flags that the call gave. Assumes nothing.
-use mathlib.Core.Path.{ap, ◌∙◌}
-use Rattle.ieee.specs.Flags.{flag_word}
-use Rattle.paskerotim.proofs.pk_ceil64_flags.Statement.{statement}
-use Rattle.paskerotim.proofs.pk_ceil64_flags.Tie as tie
-
-pub pk-ceil64-flags-spec : {M : Type 1} → statement M
-pk-ceil64-flags-spec = tie.close (tie.spec (λ c κs. tt) (λ c κs. tt) (λ c. let (v, f) = c.before.before.ceil64-flags.ensures in (v, c.word_of.ensures ∙ ap flag_word f)))

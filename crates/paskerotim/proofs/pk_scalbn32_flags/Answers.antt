@@ -1,0 +1,10 @@
+-- The word of the flags that the call gave. Assumes nothing.
+use mathlib.Core.Path.{ap, ◌∙◌}
+use mir.Facts.{to_z-of_z}
+use Rattle.ieee.specs.Flags.{flag_word}
+use Rattle.paskerotim.proofs.pk_scalbn32_flags.Goals as goal
+
+pub returns : goal.returns
+returns c =
+    let (v, f) = simp (to_z-of_z, c.ranges.n) at c.scalbn32_flags-a.ensures in
+    (v, c.word_of.ensures ∙ ap flag_word f)

@@ -1,0 +1,23 @@
+-- The parts are the number's, and so is their root (Halves). Assumes nothing.
+use native.Mathlib.Omega.{arith}
+use Rattle.ieee.specs.Format.{b32}
+use Rattle.fmt_fields.proofs.Widths.{fits32}
+use Rattle.sqrt_number.specs.Split.{Parts}
+use Rattle.sqrt_number.proofs.Halves.{ready, nearest_answers}
+use Rattle.sqrt_number.proofs.Splits.{parts}
+use Rattle.sqrt_number.proofs.sqrt_number32.Goals as goal
+
+split : (c : goal.After-lift_exponent) → Parts b32 c.args.x c.norm_of-n.result.sig c.lift_exponent.result
+split c = parts b32 c.args.x c.lift_exponent.ensures c.norm_of-n.ensures.0 c.norm_of-n.ensures.1
+
+pub norm_of-n-requires : goal.norm_of-n-requires
+norm_of-n-requires c = (fits32, c.requires.some)
+
+pub lift_exponent-requires : goal.lift_exponent-requires
+lift_exponent-requires c = (fits32, c.norm_of-n.ensures.3)
+
+pub by_table32-requires : goal.by_table32-requires
+by_table32-requires c = ready fits32 c.args.x c.requires _ _ (split c) (omega arith)
+
+pub returns : goal.returns
+returns c = let l = c.before in nearest_answers fits32 l.args.x l.requires _ _ (split l) (omega arith) c.by_table32.result c.by_table32.ensures

@@ -1,0 +1,11 @@
+-- The round's last product fits in a word (Steps). Assumes nothing.
+use Rattle.std.proofs.Common.{◌*◌, ◌/◌, ◌^◌, ap₂}
+use Rattle.sqrt_table.proofs.Steps.{all_safe}
+use Rattle.sqrt_table.proofs.root.last_narrow.Goals as goal
+
+pub returns : goal.returns
+returns c = ap₂ (λ a k. a * k / 2 ^ 32) c.begin_round-b.ensures.0 c.begin_round-b.ensures.1
+
+pub overflow_mul-result : goal.overflow_mul-result
+overflow_mul-result c =
+    record { fits = rw (c.begin_round-b.ensures.0, c.begin_round-b.ensures.1) (all_safe c.args.m c.args.r c.requires).su }
