@@ -1,4 +1,4 @@
-// The face: the operations, re-exported, and the same as C functions on whole numbers.
+// The face: the operations, re-exported, and the same as functions on whole numbers that C can call; crates/paskerotim_c exports these.
 #![tactic(auto)]
 ghost use Rattle.std.specs.Prelude.{◌≡◌};
 ghost use Rattle.ieee.specs.Flags.{flag_word};
@@ -53,15 +53,13 @@ pub use remquo::remquo::remquo64;
 pub use scalbn::scalbn::{scalbn32, scalbn64};
 pub use sqrt::sqrt::{sqrt32, sqrt64};
 
-#[unsafe(no_mangle)]
-pub extern "C" fn pk_trunc64(x: u64) -> u64
+pub fn pk_trunc64(x: u64) -> u64
     ensures { result ≡ trunc_of b64 x }
 {
     trunc64(x)
 }
 
-#[unsafe(no_mangle)]
-pub extern "C" fn pk_trunc64_flags(x: u64, flags: &mut u32) -> u64
+pub fn pk_trunc64_flags(x: u64, flags: &mut u32) -> u64
     ensures { (result ≡ trunc_of b64 x) × (flags.new ≡ flag_word (trunc_flags b64 x)) }
 {
     let a = integral::trunc::trunc64_flags(x);
@@ -70,15 +68,13 @@ pub extern "C" fn pk_trunc64_flags(x: u64, flags: &mut u32) -> u64
     a.value
 }
 
-#[unsafe(no_mangle)]
-pub extern "C" fn pk_trunc32(x: u32) -> u32
+pub fn pk_trunc32(x: u32) -> u32
     ensures { result ≡ trunc_of b32 x }
 {
     trunc32(x)
 }
 
-#[unsafe(no_mangle)]
-pub extern "C" fn pk_trunc32_flags(x: u32, flags: &mut u32) -> u32
+pub fn pk_trunc32_flags(x: u32, flags: &mut u32) -> u32
     ensures { (result ≡ trunc_of b32 x) × (flags.new ≡ flag_word (trunc_flags b32 x)) }
 {
     let a = integral::trunc::trunc32_flags(x);
@@ -87,15 +83,13 @@ pub extern "C" fn pk_trunc32_flags(x: u32, flags: &mut u32) -> u32
     a.value
 }
 
-#[unsafe(no_mangle)]
-pub extern "C" fn pk_floor64(x: u64) -> u64
+pub fn pk_floor64(x: u64) -> u64
     ensures { result ≡ floor_of b64 x }
 {
     floor64(x)
 }
 
-#[unsafe(no_mangle)]
-pub extern "C" fn pk_floor64_flags(x: u64, flags: &mut u32) -> u64
+pub fn pk_floor64_flags(x: u64, flags: &mut u32) -> u64
     ensures { (result ≡ floor_of b64 x) × (flags.new ≡ flag_word (floor_flags b64 x)) }
 {
     let a = integral::floor::floor64_flags(x);
@@ -104,15 +98,13 @@ pub extern "C" fn pk_floor64_flags(x: u64, flags: &mut u32) -> u64
     a.value
 }
 
-#[unsafe(no_mangle)]
-pub extern "C" fn pk_floor32(x: u32) -> u32
+pub fn pk_floor32(x: u32) -> u32
     ensures { result ≡ floor_of b32 x }
 {
     floor32(x)
 }
 
-#[unsafe(no_mangle)]
-pub extern "C" fn pk_floor32_flags(x: u32, flags: &mut u32) -> u32
+pub fn pk_floor32_flags(x: u32, flags: &mut u32) -> u32
     ensures { (result ≡ floor_of b32 x) × (flags.new ≡ flag_word (floor_flags b32 x)) }
 {
     let a = integral::floor::floor32_flags(x);
@@ -121,15 +113,13 @@ pub extern "C" fn pk_floor32_flags(x: u32, flags: &mut u32) -> u32
     a.value
 }
 
-#[unsafe(no_mangle)]
-pub extern "C" fn pk_ceil64(x: u64) -> u64
+pub fn pk_ceil64(x: u64) -> u64
     ensures { result ≡ ceil_of b64 x }
 {
     ceil64(x)
 }
 
-#[unsafe(no_mangle)]
-pub extern "C" fn pk_ceil64_flags(x: u64, flags: &mut u32) -> u64
+pub fn pk_ceil64_flags(x: u64, flags: &mut u32) -> u64
     ensures { (result ≡ ceil_of b64 x) × (flags.new ≡ flag_word (ceil_flags b64 x)) }
 {
     let a = integral::ceil::ceil64_flags(x);
@@ -138,15 +128,13 @@ pub extern "C" fn pk_ceil64_flags(x: u64, flags: &mut u32) -> u64
     a.value
 }
 
-#[unsafe(no_mangle)]
-pub extern "C" fn pk_ceil32(x: u32) -> u32
+pub fn pk_ceil32(x: u32) -> u32
     ensures { result ≡ ceil_of b32 x }
 {
     ceil32(x)
 }
 
-#[unsafe(no_mangle)]
-pub extern "C" fn pk_ceil32_flags(x: u32, flags: &mut u32) -> u32
+pub fn pk_ceil32_flags(x: u32, flags: &mut u32) -> u32
     ensures { (result ≡ ceil_of b32 x) × (flags.new ≡ flag_word (ceil_flags b32 x)) }
 {
     let a = integral::ceil::ceil32_flags(x);
@@ -155,8 +143,7 @@ pub extern "C" fn pk_ceil32_flags(x: u32, flags: &mut u32) -> u32
     a.value
 }
 
-#[unsafe(no_mangle)]
-pub extern "C" fn pk_modf64(x: u64, whole: &mut u64) -> u64
+pub fn pk_modf64(x: u64, whole: &mut u64) -> u64
     ensures { (result ≡ modf_of b64 x) × (whole.new ≡ modf_whole b64 x) }
 {
     let a = modf64(x);
@@ -164,8 +151,7 @@ pub extern "C" fn pk_modf64(x: u64, whole: &mut u64) -> u64
     a.fraction
 }
 
-#[unsafe(no_mangle)]
-pub extern "C" fn pk_modf32(x: u32, whole: &mut u32) -> u32
+pub fn pk_modf32(x: u32, whole: &mut u32) -> u32
     ensures { (result ≡ modf_of b32 x) × (whole.new ≡ modf_whole b32 x) }
 {
     let a = modf32(x);
@@ -173,15 +159,13 @@ pub extern "C" fn pk_modf32(x: u32, whole: &mut u32) -> u32
     a.fraction
 }
 
-#[unsafe(no_mangle)]
-pub extern "C" fn pk_scalbn64(x: u64, n: i32) -> u64
+pub fn pk_scalbn64(x: u64, n: i32) -> u64
     ensures { result ≡ scalbn_of b64 x n }
 {
     scalbn64(x, n)
 }
 
-#[unsafe(no_mangle)]
-pub extern "C" fn pk_scalbn64_flags(x: u64, n: i32, flags: &mut u32) -> u64
+pub fn pk_scalbn64_flags(x: u64, n: i32, flags: &mut u32) -> u64
     ensures { (result ≡ scalbn_of b64 x n) × (flags.new ≡ flag_word (scalbn_flags b64 x n)) }
 {
     let a = scalbn::scalbn::scalbn64_flags(x, n);
@@ -190,8 +174,7 @@ pub extern "C" fn pk_scalbn64_flags(x: u64, n: i32, flags: &mut u32) -> u64
     a.value
 }
 
-#[unsafe(no_mangle)]
-pub extern "C" fn pk_scalbn64_rounded(
+pub fn pk_scalbn64_rounded(
     attribute: u32,
     x: u64,
     n: i32,
@@ -208,15 +191,13 @@ pub extern "C" fn pk_scalbn64_rounded(
     a.refusal
 }
 
-#[unsafe(no_mangle)]
-pub extern "C" fn pk_scalbn32(x: u32, n: i32) -> u32
+pub fn pk_scalbn32(x: u32, n: i32) -> u32
     ensures { result ≡ scalbn_of b32 x n }
 {
     scalbn32(x, n)
 }
 
-#[unsafe(no_mangle)]
-pub extern "C" fn pk_scalbn32_flags(x: u32, n: i32, flags: &mut u32) -> u32
+pub fn pk_scalbn32_flags(x: u32, n: i32, flags: &mut u32) -> u32
     ensures { (result ≡ scalbn_of b32 x n) × (flags.new ≡ flag_word (scalbn_flags b32 x n)) }
 {
     let a = scalbn::scalbn::scalbn32_flags(x, n);
@@ -225,8 +206,7 @@ pub extern "C" fn pk_scalbn32_flags(x: u32, n: i32, flags: &mut u32) -> u32
     a.value
 }
 
-#[unsafe(no_mangle)]
-pub extern "C" fn pk_scalbn32_rounded(
+pub fn pk_scalbn32_rounded(
     attribute: u32,
     x: u32,
     n: i32,
@@ -243,8 +223,7 @@ pub extern "C" fn pk_scalbn32_rounded(
     a.refusal
 }
 
-#[unsafe(no_mangle)]
-pub extern "C" fn pk_frexp64(x: u64, exponent: &mut i32) -> u64
+pub fn pk_frexp64(x: u64, exponent: &mut i32) -> u64
     ensures { (result ≡ frexp_of b64 x) × (exponent.new ≡ frexp_exponent b64 x) }
 {
     let a = frexp64(x);
@@ -253,8 +232,7 @@ pub extern "C" fn pk_frexp64(x: u64, exponent: &mut i32) -> u64
     a.fraction
 }
 
-#[unsafe(no_mangle)]
-pub extern "C" fn pk_frexp32(x: u32, exponent: &mut i32) -> u32
+pub fn pk_frexp32(x: u32, exponent: &mut i32) -> u32
     ensures { (result ≡ frexp_of b32 x) × (exponent.new ≡ frexp_exponent b32 x) }
 {
     let a = frexp32(x);
@@ -263,50 +241,43 @@ pub extern "C" fn pk_frexp32(x: u32, exponent: &mut i32) -> u32
     a.fraction
 }
 
-#[unsafe(no_mangle)]
-pub extern "C" fn pk_ilogb64(x: u64) -> i32
+pub fn pk_ilogb64(x: u64) -> i32
     ensures { result ≡ ilogb_of b64 x }
 {
     ilogb64(x)
 }
 
-#[unsafe(no_mangle)]
-pub extern "C" fn pk_ilogb32(x: u32) -> i32
+pub fn pk_ilogb32(x: u32) -> i32
     ensures { result ≡ ilogb_of b32 x }
 {
     ilogb32(x)
 }
 
-#[unsafe(no_mangle)]
-pub extern "C" fn pk_nextafter64(x: u64, y: u64) -> u64
+pub fn pk_nextafter64(x: u64, y: u64) -> u64
     ensures { result ≡ nextafter_of b64 x y }
 {
     nextafter64(x, y)
 }
 
-#[unsafe(no_mangle)]
-pub extern "C" fn pk_nextafter32(x: u32, y: u32) -> u32
+pub fn pk_nextafter32(x: u32, y: u32) -> u32
     ensures { result ≡ nextafter_of b32 x y }
 {
     nextafter32(x, y)
 }
 
-#[unsafe(no_mangle)]
-pub extern "C" fn pk_fmod64(x: u64, y: u64) -> u64
+pub fn pk_fmod64(x: u64, y: u64) -> u64
     ensures { result ≡ fmod_of b64 x y }
 {
     fmod64(x, y)
 }
 
-#[unsafe(no_mangle)]
-pub extern "C" fn pk_fmod32(x: u32, y: u32) -> u32
+pub fn pk_fmod32(x: u32, y: u32) -> u32
     ensures { result ≡ fmod_of b32 x y }
 {
     fmod32(x, y)
 }
 
-#[unsafe(no_mangle)]
-pub extern "C" fn pk_remquo64(x: u64, y: u64, quotient: &mut i32) -> u64
+pub fn pk_remquo64(x: u64, y: u64, quotient: &mut i32) -> u64
     ensures { (result ≡ remquo_of b64 x y) × (quotient.new ≡ quotient_of b64 x y) }
 {
     let a = remquo64(x, y);
@@ -315,8 +286,7 @@ pub extern "C" fn pk_remquo64(x: u64, y: u64, quotient: &mut i32) -> u64
     a.value
 }
 
-#[unsafe(no_mangle)]
-pub extern "C" fn pk_reduce64(x: u64, e: u32, y: u64, value: &mut u64) -> u32
+pub fn pk_reduce64(x: u64, e: u32, y: u64, value: &mut u64) -> u32
     ensures { (result ≡ number_of (reduce_of 64 x e y)) × (value.new ≡ value_of (reduce_of 64 x e y)) }
 {
     let a = reduce64(x, e, y);
@@ -324,8 +294,7 @@ pub extern "C" fn pk_reduce64(x: u64, e: u32, y: u64, value: &mut u64) -> u32
     a.refusal
 }
 
-#[unsafe(no_mangle)]
-pub extern "C" fn pk_reduce32(x: u32, e: u32, y: u32, value: &mut u32) -> u32
+pub fn pk_reduce32(x: u32, e: u32, y: u32, value: &mut u32) -> u32
     ensures { (result ≡ number_of (reduce_of 32 x e y)) × (value.new ≡ value_of (reduce_of 32 x e y)) }
 {
     let a = reduce32(x, e, y);
@@ -333,15 +302,13 @@ pub extern "C" fn pk_reduce32(x: u32, e: u32, y: u32, value: &mut u32) -> u32
     a.refusal
 }
 
-#[unsafe(no_mangle)]
-pub extern "C" fn pk_sqrt64(x: u64) -> u64
+pub fn pk_sqrt64(x: u64) -> u64
     ensures { result ≡ sqrt_of b64 x }
 {
     sqrt64(x)
 }
 
-#[unsafe(no_mangle)]
-pub extern "C" fn pk_sqrt64_flags(x: u64, flags: &mut u32) -> u64
+pub fn pk_sqrt64_flags(x: u64, flags: &mut u32) -> u64
     ensures { (result ≡ sqrt_of b64 x) × (flags.new ≡ flag_word (sqrt_flags b64 x)) }
 {
     let a = sqrt::sqrt::sqrt64_flags(x);
@@ -350,8 +317,7 @@ pub extern "C" fn pk_sqrt64_flags(x: u64, flags: &mut u32) -> u64
     a.value
 }
 
-#[unsafe(no_mangle)]
-pub extern "C" fn pk_sqrt64_rounded(attribute: u32, x: u64, value: &mut u64, flags: &mut u32) -> u32
+pub fn pk_sqrt64_rounded(attribute: u32, x: u64, value: &mut u64, flags: &mut u32) -> u32
     ensures { (result ≡ (sqrt_rounded b64 attribute x).number) × (value.new ≡ (sqrt_rounded b64 attribute x).value)
         × (flags.new ≡ flag_word (sqrt_rounded b64 attribute x).flags) }
 {
@@ -362,15 +328,13 @@ pub extern "C" fn pk_sqrt64_rounded(attribute: u32, x: u64, value: &mut u64, fla
     a.refusal
 }
 
-#[unsafe(no_mangle)]
-pub extern "C" fn pk_sqrt32(x: u32) -> u32
+pub fn pk_sqrt32(x: u32) -> u32
     ensures { result ≡ sqrt_of b32 x }
 {
     sqrt32(x)
 }
 
-#[unsafe(no_mangle)]
-pub extern "C" fn pk_sqrt32_flags(x: u32, flags: &mut u32) -> u32
+pub fn pk_sqrt32_flags(x: u32, flags: &mut u32) -> u32
     ensures { (result ≡ sqrt_of b32 x) × (flags.new ≡ flag_word (sqrt_flags b32 x)) }
 {
     let a = sqrt::sqrt::sqrt32_flags(x);
@@ -379,8 +343,7 @@ pub extern "C" fn pk_sqrt32_flags(x: u32, flags: &mut u32) -> u32
     a.value
 }
 
-#[unsafe(no_mangle)]
-pub extern "C" fn pk_sqrt32_rounded(attribute: u32, x: u32, value: &mut u32, flags: &mut u32) -> u32
+pub fn pk_sqrt32_rounded(attribute: u32, x: u32, value: &mut u32, flags: &mut u32) -> u32
     ensures { (result ≡ (sqrt_rounded b32 attribute x).number) × (value.new ≡ (sqrt_rounded b32 attribute x).value)
         × (flags.new ≡ flag_word (sqrt_rounded b32 attribute x).flags) }
 {
@@ -391,15 +354,13 @@ pub extern "C" fn pk_sqrt32_rounded(attribute: u32, x: u32, value: &mut u32, fla
     a.refusal
 }
 
-#[unsafe(no_mangle)]
-pub extern "C" fn pk_fma64(x: u64, y: u64, z: u64) -> u64
+pub fn pk_fma64(x: u64, y: u64, z: u64) -> u64
     ensures { result ≡ fma_of b64 x y z }
 {
     fma64(x, y, z)
 }
 
-#[unsafe(no_mangle)]
-pub extern "C" fn pk_fma64_flags(x: u64, y: u64, z: u64, flags: &mut u32) -> u64
+pub fn pk_fma64_flags(x: u64, y: u64, z: u64, flags: &mut u32) -> u64
     ensures { (result ≡ fma_of b64 x y z) × (flags.new ≡ flag_word (fma_flags b64 x y z)) }
 {
     let a = fma::fma::fma64_flags(x, y, z);
@@ -408,8 +369,7 @@ pub extern "C" fn pk_fma64_flags(x: u64, y: u64, z: u64, flags: &mut u32) -> u64
     a.value
 }
 
-#[unsafe(no_mangle)]
-pub extern "C" fn pk_fma64_rounded(
+pub fn pk_fma64_rounded(
     attribute: u32,
     x: u64,
     y: u64,
@@ -427,15 +387,13 @@ pub extern "C" fn pk_fma64_rounded(
     a.refusal
 }
 
-#[unsafe(no_mangle)]
-pub extern "C" fn pk_fma32(x: u32, y: u32, z: u32) -> u32
+pub fn pk_fma32(x: u32, y: u32, z: u32) -> u32
     ensures { result ≡ fma_of b32 x y z }
 {
     fma32(x, y, z)
 }
 
-#[unsafe(no_mangle)]
-pub extern "C" fn pk_fma32_flags(x: u32, y: u32, z: u32, flags: &mut u32) -> u32
+pub fn pk_fma32_flags(x: u32, y: u32, z: u32, flags: &mut u32) -> u32
     ensures { (result ≡ fma_of b32 x y z) × (flags.new ≡ flag_word (fma_flags b32 x y z)) }
 {
     let a = fma::fma::fma32_flags(x, y, z);
@@ -444,8 +402,7 @@ pub extern "C" fn pk_fma32_flags(x: u32, y: u32, z: u32, flags: &mut u32) -> u32
     a.value
 }
 
-#[unsafe(no_mangle)]
-pub extern "C" fn pk_fma32_rounded(
+pub fn pk_fma32_rounded(
     attribute: u32,
     x: u32,
     y: u32,
@@ -463,16 +420,14 @@ pub extern "C" fn pk_fma32_rounded(
     a.refusal
 }
 
-#[unsafe(no_mangle)]
-pub extern "C" fn pk_list64(op: u32, xs: &[u64], ys: &mut [u64]) -> u32
+pub fn pk_list64(op: u32, xs: &[u64], ys: &mut [u64]) -> u32
     ensures { (result ≡ number_of (list_of b64 op xs.now ys.old).answer)
         × (ys.new ≡ (list_of b64 op xs.now ys.old).output) }
 {
     list64(op, xs, ys).refusal
 }
 
-#[unsafe(no_mangle)]
-pub extern "C" fn pk_read_hex64(text: &[u8], value: &mut u64) -> u32
+pub fn pk_read_hex64(text: &[u8], value: &mut u64) -> u32
     ensures { (result ≡ number_of (read_of b64 text.now)) × (value.new ≡ value_of (read_of b64 text.now)) }
 {
     let a = read_hex64(text);
@@ -480,8 +435,7 @@ pub extern "C" fn pk_read_hex64(text: &[u8], value: &mut u64) -> u32
     a.refusal
 }
 
-#[unsafe(no_mangle)]
-pub extern "C" fn pk_read_hex64_rounded(attribute: u32, text: &[u8], value: &mut u64) -> u32
+pub fn pk_read_hex64_rounded(attribute: u32, text: &[u8], value: &mut u64) -> u32
     ensures { (result ≡ number_of (read_rounded b64 attribute text.now))
         × (value.new ≡ value_of (read_rounded b64 attribute text.now)) }
 {
@@ -490,8 +444,7 @@ pub extern "C" fn pk_read_hex64_rounded(attribute: u32, text: &[u8], value: &mut
     a.refusal
 }
 
-#[unsafe(no_mangle)]
-pub extern "C" fn pk_read_hex32(text: &[u8], value: &mut u32) -> u32
+pub fn pk_read_hex32(text: &[u8], value: &mut u32) -> u32
     ensures { (result ≡ number_of (read_of b32 text.now)) × (value.new ≡ value_of (read_of b32 text.now)) }
 {
     let a = read_hex32(text);
@@ -499,8 +452,7 @@ pub extern "C" fn pk_read_hex32(text: &[u8], value: &mut u32) -> u32
     a.refusal
 }
 
-#[unsafe(no_mangle)]
-pub extern "C" fn pk_read_hex32_rounded(attribute: u32, text: &[u8], value: &mut u32) -> u32
+pub fn pk_read_hex32_rounded(attribute: u32, text: &[u8], value: &mut u32) -> u32
     ensures { (result ≡ number_of (read_rounded b32 attribute text.now))
         × (value.new ≡ value_of (read_rounded b32 attribute text.now)) }
 {
@@ -509,8 +461,7 @@ pub extern "C" fn pk_read_hex32_rounded(attribute: u32, text: &[u8], value: &mut
     a.refusal
 }
 
-#[unsafe(no_mangle)]
-pub extern "C" fn pk_write_hex64(x: u64, out: &mut [u8], length: &mut u32) -> u32
+pub fn pk_write_hex64(x: u64, out: &mut [u8], length: &mut u32) -> u32
     ensures { (result ≡ number_of (write_of b64 x out.old).answer) × (length.new ≡ value_of (write_of b64 x out.old).answer)
         × (out.new ≡ (write_of b64 x out.old).output) }
 {
@@ -519,8 +470,7 @@ pub extern "C" fn pk_write_hex64(x: u64, out: &mut [u8], length: &mut u32) -> u3
     a.refusal
 }
 
-#[unsafe(no_mangle)]
-pub extern "C" fn pk_write_hex32(x: u32, out: &mut [u8], length: &mut u32) -> u32
+pub fn pk_write_hex32(x: u32, out: &mut [u8], length: &mut u32) -> u32
     ensures { (result ≡ number_of (write_of b32 x out.old).answer) × (length.new ≡ value_of (write_of b32 x out.old).answer)
         × (out.new ≡ (write_of b32 x out.old).output) }
 {

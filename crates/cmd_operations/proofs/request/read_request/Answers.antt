@@ -1,5 +1,5 @@
 -- `cmd_operations::request::read_request` meets its contract: the row is that of the name, and nothing after it changes the row. Assumes nothing.
-use Rattle.std.proofs.Common.{◌≡◌, ℕ, ◌+◌, min, List, ◌∷◌, ap, ◌∙◌, ⊎_elim}
+use Rattle.std.proofs.Common.{◌≡◌, ℕ, ◌+◌, min, List, [], ◌∷◌, ap, ◌∙◌, ⊎_elim}
 use Rattle.text_lines.specs.Offsets.{offset_of, part_of}
 use Rattle.cmd_operations.specs.declared.request.Request.{Request}
 use Rattle.cmd_operations.specs.declared.table.Row.{Row}

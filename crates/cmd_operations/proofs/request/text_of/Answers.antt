@@ -1,5 +1,5 @@
 -- `cmd_operations::request::text_of` meets its contract: without a blank there is no text. Assumes nothing.
-use Rattle.std.proofs.Common.{ℕ, ◌+◌, ◌≤◌, ◌∷◌, length, sym, ap, ◌∙◌, arith}
+use Rattle.std.proofs.Common.{ℕ, ◌+◌, ◌≤◌, [], ◌∷◌, length, sym, ap, ◌∙◌, arith}
 use Rattle.text_lines.specs.Offsets.{offset_of, part_of}
 use Rattle.text_lines.proofs.Scanning.{none_back}
 use Rattle.cmd_operations.specs.Request.{text_in}

@@ -1,4 +1,4 @@
-use Rattle.std.proofs.Common.{◌≡◌, ◌-◌, ◌≤◌, ◌∷◌, sym, ◌∙◌, true≢false, arith, rules}
+use Rattle.std.proofs.Common.{◌≡◌, ◌-◌, ◌≤◌, [], ◌∷◌, sym, ◌∙◌, true≢false, arith, rules}
 use Rattle.text_lines.specs.Offsets.{part_of}
 use Rattle.cmd_operations.proofs.Naming.{at_first, found_after, walk_over, walk_found, walk_on}
 use Rattle.cmd_operations.proofs.table.find_row.Goals as goal

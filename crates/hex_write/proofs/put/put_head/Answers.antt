@@ -1,6 +1,6 @@
 -- Three bytes, one behind the other (Puts). Assumes nothing.
 use mathlib.Core.Path.{ap}
-use mathlib.Core.List.{◌∷◌}
+use mathlib.Core.List.{[], ◌∷◌}
 use native.Mathlib.Omega.{arith}
 use Rattle.hex_write.proofs.Puts.{put_as, put_behind, lead_glyph}
 use Rattle.hex_write.proofs.put.put_head.Goals as goal

@@ -1,5 +1,6 @@
 -- A byte, or none (Puts). Assumes nothing.
 use mathlib.Core.Path.{sym, ap}
+use mathlib.Core.List.{[]}
 use native.Mathlib.Omega.{arith}
 use lib.ListN.{length}
 use Rattle.ieee_numeral_laws.specs.Write.{sign_text}

@@ -11,8 +11,8 @@ use Rattle.text_lines.proofs.kept.keep.Goals as goal
 pub returns-then-s-room : goal.returns-then-s-room
 returns-then-s-room c =
     let args = c.args in
-    let room = c.Room-after.result in
-    let is : 256 - args.k.held ≡ room = sym c.Room-after.ensures in
+    let room = c.room_after-room.result in
+    let is : 256 - args.k.held ≡ room = sym c.room_after-room.ensures in
     record {
       bytes = rw (is, ← first_part room args.s.now (omega arith), ← c.part.ensures) c.write_bytes.ensures;
       more = rw (lt-ltb (256 - args.k.held) (length args.s.now) (omega arith));

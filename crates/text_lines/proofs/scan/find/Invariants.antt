@@ -1,7 +1,7 @@
 -- `text_lines::scan::find` meets its contract. The invariant: the first offset from i on is the first offset from `from` on.
 -- The measure is the rest of the length. Assumes nothing.
 use mathlib.Core.Path.{◌≡◌}
-use mathlib.Core.List.{◌∷◌}
+use mathlib.Core.List.{[], ◌∷◌}
 use Prim.Native.Nat.{◌-◌}
 use lib.ListN.{length}
 use Rattle.text_lines.specs.Offsets.{offset_of}

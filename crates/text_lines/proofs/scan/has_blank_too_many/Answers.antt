@@ -10,23 +10,10 @@ use Rattle.text_lines.proofs.scan.has_blank_too_many.Goals as goal
 pub loop-i-init : goal.loop-i-init
 loop-i-init c = refl
 
-pub returns-then-after_blank : goal.returns-then-after_blank
-returns-then-after_blank c =
-    let s = c.args.s.now in
-    let some : length s ≡ 0 → ⊥ = λ e. omega arith in
-    blank_twice s c.loop-i.i c.loop-i.after-blank (omega arith) c.if-after_blank.true c.if-is_blank.true
-    ∙ c.loop-i.invariant
-    ∙ blanks_of_some s some
-
-pub loop-i-preserved : goal.loop-i-preserved
-loop-i-preserved c =
-    let on = blank_on c.args.s.now c.loop-i.i c.loop-i.after-blank (omega arith) in
-    ⊎_elim (λ w. on (rw w.1.left)) (λ w. on (rw w.left (and-false c.loop-i.after-blank))) c.if-is_blank.branch ∙ c.loop-i.invariant
-
 pub returns-then-s-eq0 : goal.returns-then-s-eq0
 returns-then-s-eq0 c = blanks_of_none c.args.s.now c.if-s-eq0.true
 
 pub returns : goal.returns
 returns c =
     let s = c.args.s.now in
-    blank_end s c.loop-i.i c.loop-i.after-blank (omega arith) ∙ c.loop-i.invariant ∙ blanks_of_some s c.if-s-eq0.false
+    blank_end s c.loop-i.i c.loop-i.after_blank (omega arith) ∙ c.loop-i.invariant ∙ blanks_of_some s c.if-s-eq0.false

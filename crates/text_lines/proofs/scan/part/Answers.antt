@@ -8,8 +8,3 @@ use Rattle.text_lines.proofs.scan.part.Goals as goal
 pub returns-then-e-s : goal.returns-then-e-s
 unfolding part_of
 returns-then-e-s c = rw (le-leb _ _ c.if-e-s.true)
-
-pub returns : goal.returns
-returns c =
-    let args = c.args in
-    ⊎_elim (λ w. none_past args.s.now args.a args.e w.1.left) (λ w. none_back args.s.now args.a args.e w.left) c.if-a-e.branch
