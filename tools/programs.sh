@@ -84,6 +84,23 @@ is_passed() { # find_kit goes before it
     [ -r "$built/passed" ] && [ "$(cat "$built/passed")" = "$(sum_of_all) $kit_id" ] && ! ls "$root"/crates/*/out/rlib/stamp >/dev/null 2>&1
 }
 
+# Ends all processes below this one. Each is stopped first, so that none starts another while they are looked for.
+end_below() {
+    stopped=' ' is_new=yes
+    while [ -n "$is_new" ]; do
+        is_new=''
+        for process in $(cat /proc/[0-9]*/stat 2>/dev/null | awk -v top="$$" '
+            { id = $1; sub(/.*\) [^ ]+ /, ""); above[id] = $1 }
+            END { for (id in above) { for (p = above[id]; p in above && p != top; ) p = above[p]; if (p == top) print id } }'); do
+            case $stopped in *" $process "*) continue ;; esac
+            kill -STOP "$process" 2>/dev/null || continue
+            stopped="$stopped$process " is_new=yes
+        done
+    done
+    [ "$stopped" = ' ' ] || kill -KILL $stopped 2>/dev/null
+    wait
+}
+
 # How many crates rt works on at a time: one proof can take more than a gigabyte.
 jobs=$(getconf _NPROCESSORS_ONLN 2>/dev/null) || jobs=1
 [ "$jobs" -le 4 ] || jobs=4
