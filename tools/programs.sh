@@ -66,6 +66,9 @@ find_kit() { # sets kit and kit_id
     [ -r "$kit/KIT-ID" ] && IFS= read -r kit_id <"$kit/KIT-ID" || kit_id=unknown
 }
 
+is_static() { # NAME
+    sed -n 's/^[[:blank:]]*\([A-Za-z0-9_]*\)[[:blank:]]\{1,\}staticlib[[:blank:]]*:.*/\1/p' "$root/crates.txt" 2>/dev/null | grep -qxF -e "$1"
+}
 # What is built of a crate: of a program, .built/NAME; of a static library NAME_c, .built/libNAME.a.
 product() { # NAME: sets file
     if [ -f "$root/crates/$1/src/main.rt" ]; then file=$built/$1; else file=$built/lib${1%_c}.a; fi
