@@ -27,8 +27,8 @@ module _ (c : tie.After-floor_root) where
   l = c.before.before
 
   -- the root is that of the radicand of the parts
-  rooted : FloorRoot (pairs (word_of (s l).args.frac (n l).norm_of.result.sig l.lift_exponent-up.result) ((s l).args.frac + 2)) c.floor_root.result.root
-      × (c.floor_root.result.exact ≡ eqb (c.floor_root.result.root * c.floor_root.result.root) (pairs (word_of (s l).args.frac (n l).norm_of.result.sig l.lift_exponent-up.result) ((s l).args.frac + 2)))
+  rooted : FloorRoot (pairs (word_of (s l).args.frac (n l).norm_of-n.result.sig l.lift_exponent-up.result) ((s l).args.frac + 2)) c.floor_root.result.root
+      × (c.floor_root.result.exact ≡ eqb (c.floor_root.result.root * c.floor_root.result.root) (pairs (word_of (s l).args.frac (n l).norm_of-n.result.sig l.lift_exponent-up.result) ((s l).args.frac + 2)))
   rooted =
       subst (λ m. FloorRoot (pairs m ((s l).args.frac + 2)) c.floor_root.result.root × (c.floor_root.result.exact ≡ eqb (c.floor_root.result.root * c.floor_root.result.root) (pairs m ((s l).args.frac + 2))))
       c.before.word_of.ensures c.floor_root.ensures
@@ -46,19 +46,19 @@ add-floor-root : tie.Need-overflow_add-frac
 add-floor-root c = search rules
 
 floor-root-requires : tie.Need-floor_root-requires
-floor-root-requires c κs = omega (arith, fraction_few (s c.before).pre.0)
+floor-root-requires c κs = omega (arith, fraction_few (s c.before).requires.0)
 
 round-root-requires : tie.Need-round_root-requires
 round-root-requires c κs =
     let i = s (l c) in
     let h = split (l c) in
-    (i.pre.0, root_fits i.pre.0 i.args.x i.pre.1 _ _ h c.floor_root.result.root (rooted c).0, omega (arith, up_small i.pre.0 i.args.x i.pre.1 _ _ h))
+    (i.requires.0, root_fits i.requires.0 i.args.x i.requires.1 _ _ h c.floor_root.result.root (rooted c).0, omega (arith, up_small i.requires.0 i.args.x i.requires.1 _ _ h))
 
 returns : tie.Need-returns
 returns c =
     let r = c.before in
     let i = s (l r) in
-    rounded_answers i.pre.0 i.args.x i.pre.1 _ _ (split (l r)) r.floor_root.result.root r.floor_root.result.exact (rooted r) c.round_root.result c.round_root.ensures
+    rounded_answers i.requires.0 i.args.x i.requires.1 _ _ (split (l r)) r.floor_root.result.root r.floor_root.result.exact (rooted r) c.round_root.result c.round_root.ensures
 
 pub sqrt_by_digits_spec : {M : Type 1} → statement M
 sqrt_by_digits_spec =

@@ -17,7 +17,7 @@ module _ (c : tie.Else-sig-eq0) where
   z = count_leading_zeros 64 s.args.sig
 
   top : Fills 64 s.args.sig z
-  top = leading_fills 64 s.args.sig (omega (arith, c.if-sig-eq0.false)) s.fits.sig.fits
+  top = leading_fills 64 s.args.sig (omega (arith, c.if-sig-eq0.false)) s.ranges.sig.fits
 
 returns : tie.Need-returns-then-sig-eq0
 returns c = let s = c.before in omega (arith, zero_packed s.requires.0 s.args.sig s.args.up s.requires.2 (omega (arith, c.if-sig-eq0.true)))
@@ -41,7 +41,7 @@ module _ (c : tie.After-pow) where
 
   parts : ((s o).args.sig * 2 ^ most < 2 ^ 64) × ((s o).args.sig * 2 ^ most + (up - most) * 2 ^ (s o).args.frac ≡ exactly (format (s o).args.frac (s o).args.expo) ((s o).args.sig * 2 ^ up))
       × ((s o).args.sig * 2 ^ most + (up - most) * 2 ^ (s o).args.frac < 2 ^ 63)
-  parts = high_packed (s o).pre.0 (s o).args.sig up (s o).pre.2 (z o) (s o).pre.1 (top o) (omega (arith, c.before.if-up-most.false))
+  parts = high_packed (s o).requires.0 (s o).args.sig up (s o).requires.2 (z o) (s o).requires.1 (top o) (omega (arith, c.before.if-up-most.false))
 
   sum_is : (s o).args.sig * 2 ^ most % 2 ^ 64 + (up - most) * c.pow.result ≡ (s o).args.sig * 2 ^ most + (up - most) * 2 ^ (s o).args.frac
   sum_is = omega (arith, mod-eq_of_lt parts.0, times (up - most) c.pow.ensures)

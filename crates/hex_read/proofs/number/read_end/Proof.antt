@@ -66,12 +66,12 @@ module _ (c : tie.Else-not-e) where
 add-t17 : tie.Need-overflow_add-result
 add-t17 c =
     let e = c.before.before.before.before in
-    record { fits = omega (arith, c.before.size_if.ensures, part e (not (at_exponent e).read_exponent.result.neg), (start (at_exponent e)).pre.1) }
+    record { fits = omega (arith, c.before.size_if.ensures, part e (not (at_exponent e).read_exponent-e.result.neg), (start (at_exponent e)).requires.1) }
 
 add-t22 : tie.Need-overflow_add-result-3
 add-t22 c =
     let e = c.before.before.before.before.before in
-    record { fits = omega (arith, c.size_if-2.ensures, part e (at_exponent e).read_exponent.result.neg, (start (at_exponent e)).pre.2) }
+    record { fits = omega (arith, c.size_if-2.ensures, part e (at_exponent e).read_exponent-e.result.neg, (start (at_exponent e)).requires.2) }
 
 returns-5 : tie.Need-returns
 returns-5 c neg d h =
@@ -79,7 +79,7 @@ returns-5 c neg d h =
     let x = at_exponent e in
     let s = start x in
     rw (after-p x neg d)
-    (number_made neg d s.args.k (exponent x) x.read_exponent-e.result _ h s.pre.1 s.pre.2 x.read_exponent-e.ensures (valid e) refl
+    (number_made neg d s.args.k (exponent x) x.read_exponent-e.result _ h s.requires.1 s.requires.2 x.read_exponent-e.ensures (valid e) refl
     c.before.before.before.before.mark.ensures
     (ap (λ (n : ℕ). n + 4 * s.args.lead.extra) c.before.before.size_if.ensures)
     (ap (λ (n : ℕ). n + (4 * s.args.k + 1)) c.size_if-2.ensures))

@@ -40,7 +40,7 @@ returns-2 c a =
     let t = c.before.before.before in
     let e = t.before in
     let s = (start e).args in
-    infinity_found _ a _ s.neg (word_infinity s.plus s.neg s.s.now (o e).if1.false (is-inf e ∙ t.if-same.true)) c.as_found.ensures.0
+    infinity_found _ a _ s.neg (word_infinity s.plus s.neg s.s.now (o e).if-plus.false (is-inf e ∙ t.if-same.true)) c.as_found.ensures.0
     (c.as_found.ensures.1 ∙ c.before.with_sign.ensures ∙ ap (signed (format s.frac s.expo) s.neg) c.before.before.infinity.ensures)
 
 returns-3 : tie.Need-returns-then-neg
@@ -48,7 +48,7 @@ returns-3 c a =
     let t = c.before in
     let e = t.before.before in
     let s = (start e).args in
-    not_found _ a _ (word_minus s.plus s.neg s.s.now (o e).if1.false (is-inf e ∙ t.before.if-same.false) t.if-neg.true) c.not_found-then-neg.ensures.0
+    not_found _ a _ (word_minus s.plus s.neg s.s.now (o e).if-plus.false (is-inf e ∙ t.before.if-same.false) t.if-neg.true) c.not_found-then-neg.ensures.0
 
 returns-4 : tie.Need-returns-then-same-2
 returns-4 c a =
@@ -56,7 +56,7 @@ returns-4 c a =
     let n = t.before in
     let e = (i n).before in
     let s = (start e).args in
-    nan_found _ a _ (word_nan s.plus s.neg s.s.now (o e).if1.left (is-inf e ∙ (i n).if2.false) (m n).if3.false (is_nan n ∙ t.if-same-2.true)) c.as_found-then-same-2.ensures.0
+    nan_found _ a _ (word_nan s.plus s.neg s.s.now (o e).if-plus.false (is-inf e ∙ (i n).if-same.false) (m n).if-neg.false (is_nan n ∙ t.if-same-2.true)) c.as_found-then-same-2.ensures.0
     (c.as_found-then-same-2.ensures.1 ∙ c.before.nan.ensures)
 
 returns-5 : tie.Need-returns
@@ -65,12 +65,12 @@ returns-5 c a =
     let n = t.before in
     let e = (i n).before in
     let s = (start e).args in
-    not_found _ a _ (word_none s.plus s.neg s.s.now (o e).if1.left (is-inf e ∙ (i n).if2.false) (m n).if3.false (is_nan n ∙ t.if-same-2.false)) c.not_found-2.ensures.0
+    not_found _ a _ (word_none s.plus s.neg s.s.now (o e).if-plus.false (is-inf e ∙ (i n).if-same.false) (m n).if-neg.false (is_nan n ∙ t.if-same-2.false)) c.not_found-2.ensures.0
 
 with-sign-requires : tie.Need-with_sign-requires
 with-sign-requires c κs =
     let s = start c.before.before in
-    (s.pre, omega (arith, c.infinity.ensures, inf_below_top (format s.args.frac s.args.expo)))
+    (s.requires, omega (arith, c.infinity.ensures, inf_below_top (format s.args.frac s.args.expo)))
 
 pub read_word_spec : {M : Type 1} → statement M
 read_word_spec =
