@@ -13,19 +13,3 @@ row-of-name : (s : List ℕ) {name : List ℕ} {dot blank end : ℕ} {row : Row}
     → row ≡ row_of (name_of s)
 unfolding name_of
 row-of-name s r n e d b = rw (r, n, e, d, b)
-
-pub returns-then-flaw : goal.returns-then-flaw
-returns-then-flaw c =
-    c.new_request-r.ensures
-    ∙ row-of-name _ c.row_of-row.ensures c.part.ensures c.name_end-from.ensures c.find-dot.ensures.0 c.find-end.ensures.0
-
-pub returns-then-r : goal.returns-then-r
-returns-then-r c =
-    ⊎_elim (λ w. ap (λ (r : Request). r.row) w.3 ∙ w.2.ensures) (λ w. ap (λ (r : Request). r.row) w.1) c.if-dot-end.branch ∙ c.new_request-r.ensures
-    ∙ row-of-name _ c.row_of-row.ensures c.part.ensures c.name_end-from.ensures c.find-dot.ensures.0 c.find-end.ensures.0
-
-pub returns : goal.returns
-returns c =
-    c.read_operands.ensures
-    ∙ ⊎_elim (λ w. ap (λ (r : Request). r.row) w.3 ∙ w.2.ensures) (λ w. ap (λ (r : Request). r.row) w.1) c.if-dot-end.branch ∙ c.new_request-r.ensures
-    ∙ row-of-name _ c.row_of-row.ensures c.part.ensures c.name_end-from.ensures c.find-dot.ensures.0 c.find-end.ensures.0
