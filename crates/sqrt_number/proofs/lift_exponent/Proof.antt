@@ -27,32 +27,32 @@ module _ (c : tie.After-pow) where
   sum = s.args.n.exp +ℤ more
 
   exp-fits : SFits w32 s.args.n.exp
-  exp-fits = range_fits s.pre.0 s.args.n.exp s.pre.1
+  exp-fits = range_fits s.requires.0 s.args.n.exp s.requires.1
 
   fields-few : c.pow.result ≤ 2 ^ 16
-  fields-few = omega (arith, c.pow.ensures, fields_small s.pre.0)
+  fields-few = omega (arith, c.pow.ensures, fields_small s.requires.0)
 
   fields-pos : to_z w32 c.pow.result ≡ pos c.pow.result
   fields-pos = to_z_pos w32 (omega (arith, fields-few))
 
   fraction-pos : to_z w32 s.args.frac ≡ pos s.args.frac
-  fraction-pos = to_z_pos w32 (omega (arith, s.pre.0.word))
+  fraction-pos = to_z_pos w32 (omega (arith, s.requires.0.word))
 
   more-fits : SFits w32 more
-  more-fits = sfits_z w32 more (omega (arith, fields-few, s.pre.0.word)) (omega arith)
+  more-fits = sfits_z w32 more (omega (arith, fields-few, s.requires.0.word)) (omega arith)
 
   added : up sum + dn s.args.n.exp ≡ dn sum + up s.args.n.exp + (c.pow.result + s.args.frac)
   added = omega (arith, add_z s.args.n.exp more)
 
   size : (up s.args.n.exp < 2 ^ 17) × (dn s.args.n.exp ≤ low (format s.args.frac s.args.expo) + s.args.frac)
-  size = range_bounds s.pre.0 s.args.n.exp s.pre.1
+  size = range_bounds s.requires.0 s.args.n.exp s.requires.1
 
   sum_fits : SFits w32 sum
-  sum_fits = sfits_z w32 sum (omega (arith, added, size, fields-few, s.pre.0.word)) (omega (arith, added, size, low_small s.pre.0, s.pre.0.word))
+  sum_fits = sfits_z w32 sum (omega (arith, added, size, fields-few, s.requires.0.word)) (omega (arith, added, size, low_small s.requires.0, s.requires.0.word))
 
   sum-natural : dn sum ≡ 0
   sum-natural =
-      omega (arith, added, abs_z sum, size, c.pow.ensures, fields_twice (format s.args.frac s.args.expo) s.pre.0.fair, s.pre.0.fair.frac_fits)
+      omega (arith, added, abs_z sum, size, c.pow.ensures, fields_twice (format s.args.frac s.args.expo) s.requires.0.fair, s.requires.0.fair.frac_fits)
 
 returns : tie.Need-returns
 returns c =

@@ -16,7 +16,7 @@ use Rattle.sqrt_number.proofs.round_root.Statement.{statement}
 use Rattle.sqrt_number.proofs.round_root.Tie as tie
 
 half-fits : (c : tie.After-halve_exponent) → SFits w32 c.halve_exponent.result
-half-fits c = record { sfits = c.halve_exponent.type-inv }
+half-fits c = record { sfits = c.halve_exponent.type_inv }
 
 returns : tie.Need-returns
 returns c =

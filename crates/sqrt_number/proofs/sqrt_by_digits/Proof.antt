@@ -52,13 +52,13 @@ round-root-requires : tie.Need-round_root-requires
 round-root-requires c κs =
     let i = s (l c) in
     let h = split (l c) in
-    (i.pre.0, root_fits i.pre.0 i.args.x i.pre.1 _ _ h c.floor_root.result.root (rooted c).0, omega (arith, up_small i.pre.0 i.args.x i.pre.1 _ _ h))
+    (i.requires.0, root_fits i.requires.0 i.args.x i.requires.1 _ _ h c.floor_root.result.root (rooted c).0, omega (arith, up_small i.requires.0 i.args.x i.requires.1 _ _ h))
 
 returns : tie.Need-returns
 returns c =
     let r = c.before in
     let i = s (l r) in
-    rounded_answers i.pre.0 i.args.x i.pre.1 _ _ (split (l r)) r.floor_root.result.root r.floor_root.result.exact (rooted r) c.round_root.result c.round_root.ensures
+    rounded_answers i.requires.0 i.args.x i.requires.1 _ _ (split (l r)) r.floor_root.result.root r.floor_root.result.exact (rooted r) c.round_root.result c.round_root.ensures
 
 pub sqrt_by_digits_spec : {M : Type 1} → statement M
 sqrt_by_digits_spec =

@@ -19,7 +19,7 @@ module _ (c : tie.After-magnitude_of-my) where
   f = format s.args.frac s.args.expo
 
   some : 0 < inf f
-  some = infinity_some s.pre
+  some = infinity_some s.requires
 
   x_is : c.before.magnitude_of-mx.result ≡ magnitude f s.args.x
   x_is = c.before.magnitude_of-mx.ensures

@@ -18,7 +18,7 @@ module _ (c : tie.After-magnitude_of-3) where
   f = format s.args.frac s.args.expo
 
   some : 0 < inf f
-  some = infinity_some s.pre.0
+  some = infinity_some s.requires.0
 
   inf_is : c.before.before.before.before.infinity-inf.result ≡ inf f
   inf_is = c.before.before.before.before.infinity-inf.ensures

@@ -41,9 +41,9 @@ module _ (c : tie.After-with_sign-answer) where
 
   product : InfiniteProduct f s.args.x s.args.y
   product =
-      infinite_product f s.args.x s.args.y s.args.z s.pre.4
+      infinite_product f s.args.x s.args.y s.args.z s.requires.4
       (omega (arith, o.before.before.before.magnitude_of.ensures, o.before.before.if-magnitude_of-eq0.false))
-      (omega (arith, o.before.magnitude_of-2.ensures, o.if-magnitude_of-eq0-2.false)) s.pre.1 s.pre.2
+      (omega (arith, o.before.magnitude_of-2.ensures, o.if-magnitude_of-eq0-2.false)) s.requires.1 s.requires.2
 
   sign : unlike c.before.before.before.is_negative.result c.before.before.is_negative-2.result ≡ product_sign f s.args.x s.args.y
   sign = ap₂ unlike c.before.before.before.is_negative.ensures c.before.before.is_negative-2.ensures

@@ -43,7 +43,7 @@ returns-3 : tie.Need-returns
 returns-3 c =
     let o = c.before.before in
     let a = s o in
-    c.zero_sum.ensures ∙ unlike_zeros (fmt a) (attribute_of a.args.attribute) a.args.x a.args.y a.args.z a.pre.1 a.pre.2 a.pre.3 a.pre.4 a.pre.5 (none o) (sym (signs o) ∙ ap not c.before.if-neg-is_negative.false)
+    c.zero_sum.ensures ∙ unlike_zeros (fmt a) (attribute_of a.args.attribute) a.args.x a.args.y a.args.z a.requires.1 a.requires.2 a.requires.3 a.requires.4 a.requires.5 (none o) (sym (signs o) ∙ ap not c.before.if-neg-is_negative.false)
 
 magnitude-of-requires : tie.Need-magnitude_of-requires
 magnitude-of-requires c κs = search rules

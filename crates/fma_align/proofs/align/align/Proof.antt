@@ -24,7 +24,7 @@ module _ (c : tie.After-subtract_exponents) where
 
   small : mag c.subtract_exponents.result < 2 ^ 19
   small =
-      let m = mag_z_fact s.args.g s.pre.2 in
+      let m = mag_z_fact s.args.g s.requires.2 in
       let h = sub_z s.args.g (pos 38) in
       rw lowered (mag_z (s.args.g -ℤ pos 38) (2 ^ 19) (omega (arith, m, h)) (omega (arith, m, h)))
 

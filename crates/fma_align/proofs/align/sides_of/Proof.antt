@@ -28,7 +28,7 @@ module _ (c : tie.After-larger-top) where
   top = top_is s.args.a s.args.b t (simp (to_z-of_z, s.fits.a, s.fits.b) at c.larger-top.ensures)
 
   small : mag t < 2 ^ 19
-  small = top.small (2 ^ 19) s.pre.0 s.pre.1
+  small = top.small (2 ^ 19) s.requires.0 s.requires.1
 
   t-sfits : SFits w32 t
   t-sfits = record { sfits = omega (arith, small) }

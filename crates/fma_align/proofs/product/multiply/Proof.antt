@@ -17,7 +17,7 @@ y-fits : (s : tie.Start) → SFits w32 s.args.y.exp
 y-fits s = record { sfits = omega (arith, s.requires.3) }
 
 back : (c : tie.After-add_exponents) → SFits w32 c.add_exponents.result
-back c = record { sfits = c.add_exponents.type-inv }
+back c = record { sfits = c.add_exponents.type_inv }
 
 returns : tie.Need-returns
 returns c = let b = c.before.before in

@@ -18,7 +18,7 @@ module _ (i : tie.Start) where
   p-sfits = record { sfits = omega (arith, i.requires.1) }
 
   q-sfits : SFits w32 i.args.q.exp
-  q-sfits = record { sfits = omega (arith, i.pre.3) }
+  q-sfits = record { sfits = omega (arith, i.requires.3) }
 
 align-requires : tie.Need-align-a-requires
 align-requires c κs = let i = c.before.before in simp (to_z-of_z, p-sfits i, q-sfits i) (omega (arith, i.requires.2), i.requires.1, i.requires.3)
@@ -34,7 +34,7 @@ module _ (c : tie.After-align-a) where
   level = simp (to_z-of_z, p-sfits o, q-sfits o) at c.align-a.ensures
 
   down_small : c.align-a.result.down < 2 ^ 19
-  down_small = rw level.2 (down_less o.args.p.exp o.args.q.exp o.pre.1 o.pre.3 38)
+  down_small = rw level.2 (down_less o.args.p.exp o.args.q.exp o.requires.1 o.requires.3 38)
 
 add-signed-requires : tie.Need-add_signed-s-requires
 add-signed-requires c κs =
@@ -52,7 +52,7 @@ returns c =
     let s = i.args in
     let (sum, neg) = c.before.before.add_signed-s.ensures in
     let exp : c.add_to_exponent.result ≡ s.p.exp +ℤ pos (down_by 38 (d n)) = simp (to_z-of_z, p-sfits i) at c.add_to_exponent.ensures ∙ ap (λ u. s.p.exp +ℤ pos u) k in
-    let small : mag c.add_to_exponent.result < 2 ^ 19 + 2 ^ 18 = rw exp (added_exp_small s.p.exp s.q.exp i.pre.1 i.pre.3 38) in
+    let small : mag c.add_to_exponent.result < 2 ^ 19 + 2 ^ 18 = rw exp (added_exp_small s.p.exp s.q.exp i.requires.1 i.requires.3 38) in
     let back : SFits w32 c.add_to_exponent.result = record { sfits = omega (arith, small) } in
     simp (to_z-of_z, back) ((sum ∙ ap₂ (joined (unlike s.p.neg s.q.neg)) a b, neg ∙ ap₂ (joined_sign s.p.neg s.q.neg) a b, exp), small)
 

@@ -19,13 +19,13 @@ module _ (s : tie.Start) where
   f = format s.args.frac s.args.expo
 
   ox : Ordinary f s.args.x
-  ox = ordinary f s.args.x (infinity_some s.pre.0) s.pre.2
+  ox = ordinary f s.args.x (infinity_some s.requires.0) s.requires.2
 
   oy : Ordinary f s.args.y
-  oy = ordinary f s.args.y (infinity_some s.pre.0) s.pre.3
+  oy = ordinary f s.args.y (infinity_some s.requires.0) s.requires.3
 
   short : 2 ^ s.args.frac ≤ 2 ^ 23
-  short = pow_mono s.pre.1
+  short = pow_mono s.requires.1
 
 returns : tie.Need-returns
 returns c =

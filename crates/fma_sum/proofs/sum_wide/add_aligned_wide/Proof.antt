@@ -19,20 +19,20 @@ module _ (i : tie.Start) where
   p-sfits = record { sfits = omega (arith, i.requires.1) }
 
   q-sfits : SFits w32 i.args.q.exp
-  q-sfits = record { sfits = omega (arith, i.pre.3) }
+  q-sfits = record { sfits = omega (arith, i.requires.3) }
 
 module _ (o : tie.Start) where
   abbrev d : ℤ
   d = o.args.q.exp -ℤ o.args.p.exp
 
   level : (value o.args.a.product ≡ product_at 64 (value o.args.p.sig) d) × (value o.args.a.third ≡ third_at 64 o.args.q.sig d) × (o.args.a.down ≡ down_by 64 d)
-  level = o.pre.4
+  level = o.requires.4
 
   down_small : o.args.a.down < 2 ^ 19
-  down_small = rw level.2 (down_less o.args.p.exp o.args.q.exp o.pre.1 o.pre.3 64)
+  down_small = rw level.2 (down_less o.args.p.exp o.args.q.exp o.requires.1 o.requires.3 64)
 
   below : value o.args.a.product + value o.args.a.third < 2 ^ 128
-  below = added_below 64 (value o.args.p.sig) o.args.q.sig d {k = 2 ^ 127} level.0 level.1 o.pre.0 o.pre.2 refl
+  below = added_below 64 (value o.args.p.sig) o.args.q.sig d {k = 2 ^ 127} level.0 level.1 o.requires.0 o.requires.2 refl
 
 add-signed-wide-requires : tie.Need-add_signed_wide-s-requires
 add-signed-wide-requires o κs = below o

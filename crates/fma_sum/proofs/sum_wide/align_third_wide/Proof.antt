@@ -11,7 +11,7 @@ module _ (i : tie.Start) where
   p-sfits = record { sfits = omega (arith, i.requires.0) }
 
   q-sfits : SFits w32 i.args.q.exp
-  q-sfits = record { sfits = omega (arith, i.pre.1) }
+  q-sfits = record { sfits = omega (arith, i.requires.1) }
 
 align-wide-requires : tie.Need-align_wide-requires
 align-wide-requires c κs = let i = c.before.before in simp (to_z-of_z, p-sfits i, q-sfits i) i.requires

@@ -20,13 +20,13 @@ module _ (s : tie.Start) where
   f = format s.args.frac s.args.expo
 
   ox : Ordinary f s.args.x
-  ox = ordinary f s.args.x (infinity_some s.pre.0) s.pre.1
+  ox = ordinary f s.args.x (infinity_some s.requires.0) s.requires.1
 
   oy : Ordinary f s.args.y
-  oy = ordinary f s.args.y (infinity_some s.pre.0) s.pre.2
+  oy = ordinary f s.args.y (infinity_some s.requires.0) s.requires.2
 
   short : 2 ^ s.args.frac ≤ 2 ^ 61
-  short = pow_mono {j = 61} (omega (arith, s.pre.0.word, s.pre.0.fair.expo_two))
+  short = pow_mono {j = 61} (omega (arith, s.requires.0.word, s.requires.0.fair.expo_two))
 
 returns : tie.Need-returns
 returns c =

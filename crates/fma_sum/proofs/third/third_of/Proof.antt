@@ -46,7 +46,7 @@ module _ (c : tie.Else-is_zero) where
   other = sym c.before.is_zero.ensures ∙ c.if-is_zero.false
 
   o : Ordinary (f i) i.args.z
-  o = let e = eqb-false (magnitude (f i) i.args.z) 0 other in record { least = omega (arith, e); most = i.pre.1 }
+  o = let e = eqb-false (magnitude (f i) i.args.z) 0 other in record { least = omega (arith, e); most = i.requires.1 }
 
 norm-of-requires : tie.Need-norm_of-n-requires
 norm-of-requires c κs = ((i c).requires.0, (o c).least)
@@ -56,7 +56,7 @@ module _ (c : tie.After-norm_of-n) where
   s = i c.before
 
   short : c.norm_of-n.result.sig * 2 < 2 ^ (s.args.frac + 2)
-  short = omega (arith, c.norm_of-n.ensures.0, third_bits (f s) s.pre.0.fair s.args.z (o c.before))
+  short = omega (arith, c.norm_of-n.ensures.0, third_bits (f s) s.requires.0.fair s.args.z (o c.before))
 
   small : mag c.norm_of-n.result.exp < 2 ^ 18
   small = omega (arith, c.norm_of-n.ensures.3.small)

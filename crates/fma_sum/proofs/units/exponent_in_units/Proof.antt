@@ -23,16 +23,16 @@ module _ (c : tie.After-low_of) where
   sum = s.args.exp +ℤ c.low_of.result
 
   low_word : SFits w32 c.low_of.result
-  low_word = low_fits s.pre.0 c.low_of.result c.low_of.ensures
+  low_word = low_fits s.requires.0 c.low_of.result c.low_of.ensures
 
   sum_fits : SFits w32 sum
-  sum_fits = units_fit s.pre.0 s.args.exp c.low_of.result (omega (arith, s.pre.1)) c.low_of.ensures
+  sum_fits = units_fit s.requires.0 s.args.exp c.low_of.result (omega (arith, s.requires.1)) c.low_of.ensures
 
   exp-is : sum -ℤ pos 1 ≡ s.args.exp +ℤ pos (low (format s.args.frac s.args.expo)) -ℤ pos 1
   exp-is = ap (λ z. s.args.exp +ℤ z -ℤ pos 1) c.low_of.ensures
 
   exp-small : mag (sum -ℤ pos 1) < 2 ^ 20 - 64
-  exp-small = rw exp-is (units_small s.pre.0 s.args.exp s.pre.1)
+  exp-small = rw exp-is (units_small s.requires.0 s.args.exp s.requires.1)
 
   exp-fits : SFits w32 (sum -ℤ pos 1)
   exp-fits = record { sfits = omega (arith, exp-small) }

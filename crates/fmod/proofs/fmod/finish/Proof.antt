@@ -23,10 +23,10 @@ module _ (c : tie.After-unpack-b) where
   f = format s.args.frac s.args.expo
 
   ends : Finishes f s.args.x s.args.y s.args.left
-  ends = (reduces s.pre.0 s.args.x s.args.y s.pre.1).finishes s.args.left s.pre.2
+  ends = (reduces s.requires.0 s.args.x s.args.y s.requires.1).finishes s.args.left s.requires.2
 
   exp-fits : SFits w32 c.unpack-b.result.exp
-  exp-fits = range_fits s.pre.0 c.unpack-b.result.exp c.unpack-b.ensures.3
+  exp-fits = range_fits s.requires.0 c.unpack-b.result.exp c.unpack-b.ensures.3
 
   units-are : units_at f s.args.left c.unpack-b.result.exp ≡ units_at f s.args.left (exponent f s.args.y)
   units-are = ap (units_at f s.args.left) c.unpack-b.ensures.1

@@ -16,7 +16,7 @@ module _ (c : tie.After-reduce_below_twice) where
   s = c.before.before
 
   near : (c.reduce_below_twice.result < 2 * s.args.y) × ((e : ℕ) → c.reduce_below_twice.result * 2 ^ e % s.args.y ≡ s.args.x * 2 ^ e % s.args.y)
-  near = near_is s.args.x s.args.y s.pre.1 c.reduce_below_twice.result (omega (arith, c.reduce_below_twice.ensures))
+  near = near_is s.args.x s.args.y s.requires.1 c.reduce_below_twice.result (omega (arith, c.reduce_below_twice.ensures))
 
 returns-2 : tie.Need-returns
 returns-2 c = let o = c.before in omega (arith, c.linear_mul_short.ensures, (near o).1 (s o).args.e)

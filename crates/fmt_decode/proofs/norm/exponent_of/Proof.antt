@@ -11,16 +11,16 @@ module _ (c : tie.After-low_of) where
   s = c.before
 
   up_pos : to_z w32 s.args.up ≡ pos s.args.up
-  up_pos = to_z_pos w32 (omega (arith, s.pre.1))
+  up_pos = to_z_pos w32 (omega (arith, s.requires.1))
 
   low_word : SFits w32 c.low_of.result
-  low_word = low_fits s.pre.0 c.low_of.result c.low_of.ensures
+  low_word = low_fits s.requires.0 c.low_of.result c.low_of.ensures
 
   less_fits : SFits w32 (pos s.args.up -ℤ c.low_of.result)
   less_fits =
       let d = sub_z (pos s.args.up) c.low_of.result in
       let e = eq_z_fact c.low_of.ensures in
-      sfits_z w32 (pos s.args.up -ℤ c.low_of.result) (omega (arith, s.pre.1)) (omega (arith, low_small s.pre.0))
+      sfits_z w32 (pos s.args.up -ℤ c.low_of.result) (omega (arith, s.requires.1)) (omega (arith, low_small s.requires.0))
 
 returns : tie.Need-returns
 returns c = simp (to_z-of_z, up_pos c, low_word c, less_fits c) (ap (λ z. pos (s c).args.up -ℤ z) c.low_of.ensures)

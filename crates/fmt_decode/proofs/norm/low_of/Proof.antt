@@ -10,12 +10,12 @@ module _ (c : tie.After-pow) where
 
   half-small : (2 ≤ c.pow.result) × (c.pow.result ≤ 2 ^ 15)
   half-small =
-      let a = pow_mono {i = 1} {j = s.args.expo - 1} (omega (arith, s.pre.fair.expo_two)) in
-      let b = pow_mono {i = s.args.expo - 1} {j = 15} (omega (arith, s.pre.small)) in
+      let a = pow_mono {i = 1} {j = s.args.expo - 1} (omega (arith, s.requires.fair.expo_two)) in
+      let b = pow_mono {i = s.args.expo - 1} {j = 15} (omega (arith, s.requires.small)) in
       omega (arith, c.pow.ensures)
 
   sum-small : c.pow.result + s.args.frac - 2 < 2 ^ 31
-  sum-small = omega (arith, half-small, s.pre.word)
+  sum-small = omega (arith, half-small, s.requires.word)
 
 returns : tie.Need-returns
 returns c = to_z_pos w32 (sum-small c) ∙ ap pos (omega (arith, c.pow.ensures, half-small c))

@@ -31,10 +31,10 @@ module _ (c : tie.After-zeros_before-zeros) where
   zeros-are = c.zeros_before-zeros.ensures ∙ ap (count_leading_zeros (suc at.args.frac)) n.unpack-n.ensures.0
 
   fills : Fills (suc at.args.frac) (significand (fmt at) at.args.x) (zeros_of (fmt at) at.args.x)
-  fills = zeros_fill (fmt at) at.args.x at.pre.1
+  fills = zeros_fill (fmt at) at.args.x at.requires.1
 
   zeros-few : zeros < 62
-  zeros-few = omega (arith, zeros-are, fills.fewer, at.pre.0.word, at.pre.0.fair.expo_two)
+  zeros-few = omega (arith, zeros-are, fills.fewer, at.requires.0.word, at.requires.0.fair.expo_two)
 
   zeros-pos : to_z w32 zeros ≡ pos zeros
   zeros-pos = to_z_pos w32 (omega (arith, zeros-few))
@@ -44,17 +44,17 @@ module _ (c : tie.After-zeros_before-zeros) where
 
   sig-room : n.unpack-n.result.sig * 2 ^ zeros < 2 ^ 64
   sig-room =
-      let m = pow_mono {i = suc at.args.frac} {j = 64} (omega (arith, at.pre.0.word)) in
+      let m = pow_mono {i = suc at.args.frac} {j = 64} (omega (arith, at.requires.0.word)) in
       omega (arith, sig_is, sig_shifted (fmt at) at.args.x, fills.most)
 
   exp-is : n.unpack-n.result.exp -ℤ pos zeros ≡ exp_of (fmt at) at.args.x
   exp-is = ap₂ (λ z k. z -ℤ pos k) n.unpack-n.ensures.1 zeros-are ∙ exp_lowered (fmt at) at.args.x
 
   exp-goes : InRange (fmt at) (n.unpack-n.result.exp -ℤ pos zeros)
-  exp-goes = exp_in_range at.pre.0 at.args.x at.pre.1 exp-is
+  exp-goes = exp_in_range at.requires.0 at.args.x at.requires.1 exp-is
 
   less_fits : SFits w32 (n.unpack-n.result.exp -ℤ pos zeros)
-  less_fits = range_fits at.pre.0 (n.unpack-n.result.exp -ℤ pos zeros) exp-goes
+  less_fits = range_fits at.requires.0 (n.unpack-n.result.exp -ℤ pos zeros) exp-goes
 
 returns : tie.Need-returns-then-n-pow
 returns c =
@@ -65,14 +65,7 @@ returns c =
     (r.0 ∙ i, r.1 ∙ j, r.2, r.3)
 
 returns-2 : tie.Need-returns
-returns-2 c =
-    let z = c.before.before.before in (
-      mod-eq_of_lt (sig-room z) ∙ sig_is z,
-      simp (to_z-of_z, exp-word (n z), zeros-pos z, less_fits z) (exp-is z),
-      (n z).unpack.ensures.2,
-      simp (to_z-of_z, exp-word (n z), zeros-pos z, less_fits z) (exp-goes z),
-    )
-
+returns-2 c = search rules
 unpack-requires : tie.Need-unpack-n-requires
 unpack-requires c κs = search rules
 

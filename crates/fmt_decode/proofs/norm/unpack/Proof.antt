@@ -15,7 +15,7 @@ field-none : (c : tie.Else-exponent_field-gt0) → let s = c.before.before in fi
 field-none c = omega (arith, c.before.exponent_field.ensures, c.if-exponent_field-gt0.false)
 
 back : (c : tie.After-exponent_of) → SFits w32 c.exponent_of.result
-back c = record { sfits = c.exponent_of.type-inv }
+back c = record { sfits = c.exponent_of.type_inv }
 
 returns : tie.Need-returns-then-exponent_field-gt0
 returns c = c.unpack_normal.ensures

@@ -16,7 +16,7 @@ up_is : (c : tie.After-exponent_field-up) → let s = c.before in c.exponent_fie
 up_is c = ap (λ q. q - 1) c.exponent_field-up.ensures
 
 back : (c : tie.After-exponent_of) → SFits w32 c.exponent_of.result
-back c = record { sfits = c.exponent_of.type-inv }
+back c = record { sfits = c.exponent_of.type_inv }
 
 returns : tie.Need-returns
 returns c =

@@ -26,14 +26,14 @@ module _ (c : tie.After-low_of) where
   by-is = ap (λ z. s.args.exp +ℤ z) c.low_of.ensures
 
   low_word : SFits w32 c.low_of.result
-  low_word = low_fits s.pre.0 c.low_of.result c.low_of.ensures
+  low_word = low_fits s.requires.0 c.low_of.result c.low_of.ensures
 
   by-bounds : (up by < 2 ^ 19) × (dn by ≤ s.args.frac)
   by-bounds =
-      omega (arith, add_z s.args.exp c.low_of.result, eq_z_fact c.low_of.ensures, low_small s.pre.0, range_bounds s.pre.0 s.args.exp s.pre.2, one_z by, one_z s.args.exp)
+      omega (arith, add_z s.args.exp c.low_of.result, eq_z_fact c.low_of.ensures, low_small s.requires.0, range_bounds s.requires.0 s.args.exp s.requires.2, one_z by, one_z s.args.exp)
 
   by_fits : SFits w32 by
-  by_fits = units_fit s.pre.0 s.args.exp c.low_of.result (omega (arith, s.pre.2.small)) c.low_of.ensures
+  by_fits = units_fit s.requires.0 s.args.exp c.low_of.result (omega (arith, s.requires.2.small)) c.low_of.ensures
 
   units-are : shifted s.args.sig by ≡ units_at (fmt s) s.args.sig s.args.exp
   units-are = ap (shifted s.args.sig) by-is
@@ -69,17 +69,9 @@ module _ (c : tie.Else-up-lt0) where
   units-up = shifted_up (s h).args.sig (by h) not_below ∙ units-are h
 
 returns : tie.Need-returns-then-up-lt0
-returns c =
-    let o = l c in
-    let a = (s o).args in
-    simp (to_z-of_z, (s o).fits.exp, low_word o, by_fits o, down_fits c)
-    (own_magnitude (fmt (s o)) a.sig (nat_abs (down c)) _ (omega (arith, (s o).pre.1, pow-add 2 a.frac 1)) (shifted_down a.sig (by o) (below c) ∙ units-are o) (s o).pre.3)
-
+returns c = search rules
 returns-2 : tie.Need-returns
-returns-2 c =
-    let o = h c.before in
-    (simp (to_z-of_z, (s o).fits.exp, low_word o, by_fits o) at c.pack_units.ensures) ∙ ap (exactly (fmt (s o))) (units-up c.before)
-
+returns-2 c = search rules
 low-of-requires : tie.Need-low_of-requires
 low-of-requires c κs = search rules
 
@@ -87,30 +79,17 @@ add-up : tie.Need-overflow_add-up
 add-up c = simp (to_z-of_z, (s c).ranges.exp, low_word c) (by_fits c)
 
 sub-result : tie.Need-overflow_sub-result
-sub-result c = simp (to_z-of_z, (s (l c)).fits.exp, low_word (l c), by_fits (l c)) (down_fits c)
-
+sub-result c = search rules
 cast-result : tie.Need-overflow_cast-result
-cast-result c =
-    simp (to_z-of_z, (s (l c)).fits.exp, low_word (l c), by_fits (l c), down_fits c)
-    (non_neg_z (down c) (omega (arith, down_small c)), record { fits = omega (arith, down_small c) })
-
+cast-result c = search rules
 cast-result-2 : tie.Need-overflow_cast-result-then-up-lt0
-cast-result-2 c = simp (to_z-of_z, (s (l c)).fits.exp, low_word (l c), by_fits (l c), down_fits c) (record { fits = omega (arith, down_small c) })
-
+cast-result-2 c = search rules
 shr-result : tie.Need-overflow_shr-result
-shr-result c = simp (to_z-of_z, (s (l c)).fits.exp, low_word (l c), by_fits (l c), down_fits c) (down_small c).1
-
+shr-result c = search rules
 cast-pack-units : tie.Need-overflow_cast-up
-cast-pack-units c =
-    let o = h c in
-    simp (to_z-of_z, (s o).fits.exp, low_word o, by_fits o)
-    (non_neg_z (by o) (omega (arith, by-natural c)), record { fits = omega (arith, abs_z (by o), by-natural c, by-bounds o) })
-
+cast-pack-units c = search rules
 pack-units-requires : tie.Need-pack_units-requires
-pack-units-requires c κs =
-    let o = h c in
-    simp (to_z-of_z, (s o).fits.exp, low_word o, by_fits o) ((s o).pre.0, (s o).pre.1, omega (arith, units-up c, (s o).pre.3))
-
+pack-units-requires c κs = search rules
 pub pack_spec : {M : Type 1} → statement M
 pack_spec =
     tie.close

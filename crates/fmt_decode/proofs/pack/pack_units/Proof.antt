@@ -17,7 +17,7 @@ module _ (c : tie.Else-sig-eq0) where
   z = count_leading_zeros 64 s.args.sig
 
   top : Fills 64 s.args.sig z
-  top = leading_fills 64 s.args.sig (omega (arith, c.if-sig-eq0.false)) s.fits.sig.fits
+  top = leading_fills 64 s.args.sig (omega (arith, c.if-sig-eq0.false)) s.ranges.sig.fits
 
 returns : tie.Need-returns-then-sig-eq0
 returns c = let s = c.before in omega (arith, zero_packed s.requires.0 s.args.sig s.args.up s.requires.2 (omega (arith, c.if-sig-eq0.true)))

@@ -25,7 +25,7 @@ returns-2 c =
     let e = m.before in
     let o = e.before in
     let w = c.wrapping_sub_u64 in
-    y_test (f o) (infinity_some (s o).requires) (s o).args.x (s o).args.y _ w.result m.magnitude_of-size.result o.before.infinity-inf.ensures m.magnitude_of-size.ensures w.ensures w.type-inv
+    y_test (f o) (infinity_some (s o).requires) (s o).args.x (s o).args.y _ w.result m.magnitude_of-size.result o.before.infinity-inf.ensures m.magnitude_of-size.ensures w.ensures w.type_inv
     (top_room (s o).requires) (omega (arith, e.if-magnitude_of-inf.false, o.before.infinity-inf.ensures, o.magnitude_of.ensures))
 
 infinity-requires : tie.Need-infinity-inf-requires

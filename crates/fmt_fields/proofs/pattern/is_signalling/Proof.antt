@@ -34,6 +34,15 @@ sub-result : tie.Need-overflow_sub-result
 sub-result c = omega (arith, inf_is c, nan_is c, pow_pos ((s c).args.frac - 1))
 
 returns : tie.Need-returns
-returns c = search rules
+returns c =
+    let m = magnitude (f c) (s c).args.x in
+    let w = c.wrapping_sub_u64 in
+    let room = top_room (s c).requires in
+    let least = inf_below_top (f c) in
+    alike (leb_reads (suc w.result) (c.before.before.nan-quiet.result - (c.before.before.before.infinity-first.result + 1))) (signals_reads (f c) (s c).requires.fair (s c).args.x) (
+      λ h. (omega (arith, h, inf_is c, nan_is c, mag_is c, w.ensures, w.type_inv), omega (arith, h, inf_is c, nan_is c, mag_is c, w.ensures, w.type_inv)),
+      λ h. omega (arith, h.0, h.1, inf_is c, nan_is c, mag_is c, w.ensures, w.type_inv),
+    )
+
 pub is_signalling_spec : {M : Type 1} → statement M
 is_signalling_spec = tie.close (tie.spec (λ c κs. search rules) add-first (λ c κs. search rules) (λ c κs. search rules) (λ c κs. search rules) sub-result returns)

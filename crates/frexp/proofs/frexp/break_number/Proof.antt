@@ -37,26 +37,26 @@ module _ (c : tie.After-pow) where
   packed = s.args.n.sig + (c.before.pow-half.result - 3) * c.pow.result
 
   packed-is : packed ≡ sig_of f s.args.x + half f * 2 ^ s.args.frac
-  packed-is = λ i. s.pre.4.0 i + half_is i * c.pow.ensures i
+  packed-is = λ i. s.requires.4.0 i + half_is i * c.pow.ensures i
 
   packed-small : packed < top f
-  packed-small = omega (arith, packed-is, inf_below_top f, (frexp_normalised f s.pre.0.fair s.args.x s.pre.2 s.pre.3 s.pre.1).0)
+  packed-small = omega (arith, packed-is, inf_below_top f, (frexp_normalised f s.requires.0.fair s.args.x s.requires.2 s.requires.3 s.requires.1).0)
 
   packed-fraction : signed f s.args.n.neg packed ≡ frexp_of f s.args.x
-  packed-fraction = (λ i. signed f (s.pre.4.2 i) (packed-is i)) ∙ (frexp_normalised f s.pre.0.fair s.args.x s.pre.2 s.pre.3 s.pre.1).1
+  packed-fraction = (λ i. signed f (s.requires.4.2 i) (packed-is i)) ∙ (frexp_normalised f s.requires.0.fair s.args.x s.requires.2 s.requires.3 s.requires.1).1
 
 module _ (c : tie.After-leading_exponent) where
   abbrev start : tie.Start
   start = c.before.before.before.before.before
 
   result_fits : SFits w32 c.leading_exponent.result
-  result_fits = record { sfits = c.leading_exponent.type-inv }
+  result_fits = record { sfits = c.leading_exponent.type_inv }
 
   next_fits : SFits w32 (c.leading_exponent.result +ℤ pos 1)
   next_fits =
-      let w = start.pre.0 in
+      let w = start.requires.0 in
       let z = start.args.n.exp in
-      let b = range_bounds w z start.pre.4.3 in
+      let b = range_bounds w z start.requires.4.3 in
       let a = add_z z (pos start.args.frac) in
       let e = eq_z_fact c.leading_exponent.ensures in
       let d = add_z c.leading_exponent.result (pos 1) in
@@ -94,8 +94,8 @@ returns c =
     let a = start c in (
       c.before.with_sign.ensures ∙ packed-fraction c.before.before.before,
       simp (to_z-of_z, result_fits c, next_fits c)
-          (ap (λ z. z +ℤ pos 1) (c.leading_exponent.ensures ∙ ap (λ z. z +ℤ pos a.args.frac) a.pre.4.1)
-          ∙ exponent_normalised (format a.args.frac a.args.expo) a.pre.0.fair a.args.x a.pre.2 a.pre.3),
+          (ap (λ z. z +ℤ pos 1) (c.leading_exponent.ensures ∙ ap (λ z. z +ℤ pos a.args.frac) a.requires.4.1)
+          ∙ exponent_normalised (format a.args.frac a.args.expo) a.requires.0.fair a.args.x a.requires.2 a.requires.3),
     )
 
 pub break_number_spec : {M : Type 1} → statement M

@@ -40,7 +40,7 @@ returns c =
     let o = normal_ordinary (fmt s) s.args.x h in
     let r = u.unpack_normal.result in
     let e = (unpacked_normalised (fmt s) s.args.x h r.sig r.exp r.neg u.unpack_normal.ensures).1 in
-    to_z-of_z {w = w32} (record { sfits = c.leading_exponent.type-inv }) ∙ c.leading_exponent.ensures ∙ ap (λ z. z +ℤ pos s.args.frac) e ∙ ilogb_normalised (fmt s) s.requires.fair s.args.x o.least o.most
+    to_z-of_z {w = w32} (record { sfits = c.leading_exponent.type_inv }) ∙ c.leading_exponent.ensures ∙ ap (λ z. z +ℤ pos s.args.frac) e ∙ ilogb_normalised (fmt s) s.requires.fair s.args.x o.least o.most
 
 is-zero-nan-inf-requires : tie.Need-is_zero_nan_inf-requires
 is-zero-nan-inf-requires c κs = search rules
@@ -62,7 +62,7 @@ returns-3 c =
     let n = c.before in
     let s = n.before.before.before.before.before in
     let o = number n.before in
-    to_z-of_z {w = w32} (record { sfits = c.leading_exponent-2.type-inv }) ∙ c.leading_exponent-2.ensures ∙ ap (λ z. z +ℤ pos s.args.frac) n.norm_of.ensures.1 ∙ ilogb_normalised (fmt s) s.requires.fair s.args.x o.least o.most
+    to_z-of_z {w = w32} (record { sfits = c.leading_exponent-2.type_inv }) ∙ c.leading_exponent-2.ensures ∙ ap (λ z. z +ℤ pos s.args.frac) n.norm_of.ensures.1 ∙ ilogb_normalised (fmt s) s.requires.fair s.args.x o.least o.most
 
 pub ilogb_pattern_spec : {M : Type 1} → statement M
 ilogb_pattern_spec =

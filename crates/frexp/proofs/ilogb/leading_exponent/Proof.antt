@@ -16,16 +16,16 @@ module _ (s : tie.Start) where
   exp = s.args.n.exp
 
   exp-fits : SFits w32 exp
-  exp-fits = range_fits s.pre.0 exp s.pre.1
+  exp-fits = range_fits s.requires.0 exp s.requires.1
 
   frac_pos : to_z w32 s.args.frac ≡ pos s.args.frac
-  frac_pos = to_z_pos w32 (omega (arith, s.pre.0.word))
+  frac_pos = to_z_pos w32 (omega (arith, s.requires.0.word))
 
   sum_fits : SFits w32 (exp +ℤ pos s.args.frac)
   sum_fits =
-      let b = range_bounds s.pre.0 exp s.pre.1 in
+      let b = range_bounds s.requires.0 exp s.requires.1 in
       let a = add_z exp (pos s.args.frac) in
-      sfits_z w32 (exp +ℤ pos s.args.frac) (omega (arith, s.pre.0.word)) (omega (arith, low_small s.pre.0, s.pre.0.word))
+      sfits_z w32 (exp +ℤ pos s.args.frac) (omega (arith, s.requires.0.word)) (omega (arith, low_small s.requires.0, s.requires.0.word))
 
 cast-result : tie.Need-overflow_cast-result
 cast-result c = search rules

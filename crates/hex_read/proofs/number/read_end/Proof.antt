@@ -79,7 +79,7 @@ returns-5 c neg d h =
     let x = at_exponent e in
     let s = start x in
     rw (after-p x neg d)
-    (number_made neg d s.args.k (exponent x) x.read_exponent-e.result _ h s.pre.1 s.pre.2 x.read_exponent-e.ensures (valid e) refl
+    (number_made neg d s.args.k (exponent x) x.read_exponent-e.result _ h s.requires.1 s.requires.2 x.read_exponent-e.ensures (valid e) refl
     c.before.before.before.before.mark.ensures
     (ap (λ (n : ℕ). n + 4 * s.args.lead.extra) c.before.before.size_if.ensures)
     (ap (λ (n : ℕ). n + (4 * s.args.k + 1)) c.size_if-2.ensures))

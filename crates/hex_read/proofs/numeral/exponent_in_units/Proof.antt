@@ -26,26 +26,26 @@ module _ (c : tie.After-low_of) where
   difference = sum -ℤ pos s.args.down
 
   up_pos : to_z w32 s.args.up ≡ pos s.args.up
-  up_pos = to_z_pos w32 (omega (arith, s.pre.1))
+  up_pos = to_z_pos w32 (omega (arith, s.requires.1))
 
   down_pos : to_z w32 s.args.down ≡ pos s.args.down
-  down_pos = to_z_pos w32 (omega (arith, s.pre.2))
+  down_pos = to_z_pos w32 (omega (arith, s.requires.2))
 
   low_word : SFits w32 c.low_of.result
-  low_word = low_fits s.pre.0 c.low_of.result c.low_of.ensures
+  low_word = low_fits s.requires.0 c.low_of.result c.low_of.ensures
 
   sum_fits : SFits w32 sum
   sum_fits =
       let a = add_z (pos s.args.up) c.low_of.result in
       let e = eq_z_fact c.low_of.ensures in
-      sfits_z w32 sum (omega (arith, s.pre.1, low_small s.pre.0)) (omega (arith, low_small s.pre.0))
+      sfits_z w32 sum (omega (arith, s.requires.1, low_small s.requires.0)) (omega (arith, low_small s.requires.0))
 
   small : mag difference < 2 ^ 20
   small =
       let a = add_z (pos s.args.up) c.low_of.result in
       let b = sub_z sum (pos s.args.down) in
       let e = eq_z_fact c.low_of.ensures in
-      mag_z difference (2 ^ 20) (omega (arith, s.pre.1, low_small s.pre.0)) (omega (arith, s.pre.2, low_small s.pre.0))
+      mag_z difference (2 ^ 20) (omega (arith, s.requires.1, low_small s.requires.0)) (omega (arith, s.requires.2, low_small s.requires.0))
 
   difference-fits : SFits w32 difference
   difference-fits = record { sfits = omega (arith, small) }

@@ -32,7 +32,7 @@ value-of-requires c κs =
     let neg : Bool = eqb (get_or t 0 0) 45 in
     let at = n.before.before.after_sign-start.result in
     let (u, d) = number_small neg (unsigned_of neg (take (length t - at) (drop at t))) n.read_number-n.result (n.read_number-n.ensures neg) c.if-n.true in
-    (s.pre.0, u, d)
+    (s.requires.0, u, d)
 
 returns-2 : tie.Need-returns-then-n
 returns-2 c =
@@ -40,7 +40,7 @@ returns-2 c =
     let n = t.before in
     let g = n.before.before in
     let s = start g in
-    number_found _ _ s.args.s.now (omega arith) n.read_number-n.result _ g.after_sign-start.result g.after_sign-start.ensures s.pre.1
+    number_found _ _ s.args.s.now (omega arith) n.read_number-n.result _ g.after_sign-start.result g.after_sign-start.ensures s.requires.1
     (n.read_number-n.ensures (eqb (get_or s.args.s.now 0 0) 45)) t.if-n.true c.as_found.ensures.0 (c.as_found.ensures.1 ∙ c.before.value_of_lem.ensures)
 
 returns-3 : tie.Need-returns

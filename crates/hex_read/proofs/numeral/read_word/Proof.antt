@@ -70,7 +70,7 @@ returns-5 c a =
 with-sign-requires : tie.Need-with_sign-requires
 with-sign-requires c κs =
     let s = start c.before.before in
-    (s.pre, omega (arith, c.infinity.ensures, inf_below_top (format s.args.frac s.args.expo)))
+    (s.requires, omega (arith, c.infinity.ensures, inf_below_top (format s.args.frac s.args.expo)))
 
 pub read_word_spec : {M : Type 1} → statement M
 read_word_spec =

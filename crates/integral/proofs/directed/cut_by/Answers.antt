@@ -11,7 +11,7 @@ returns c =
     let r = c.wrapping_sub_u64.result in
     let g = goes_away (format c.args.frac c.args.expo) c.args.up c.args.x in
     let e = c.away_word-away.ensures in
-    cut_in_words g c.args.x c.args.mask r (search rules) (search rules) c.wrapping_sub_u64.type-inv c.requires.2
+    cut_in_words g c.args.x c.args.mask r (search rules) (search rules) c.wrapping_sub_u64.type_inv c.requires.2
     (ap (λ n. (r + n / d * d) % 2 ^ 64) (sym e)
     ∙ ap (λ n. (r + n) % 2 ^ 64) (sym c.clear_under-2.ensures)
     ∙ c.wrapping_sub_u64.ensures

@@ -34,7 +34,7 @@ module _ (t : tie.After-pow-top) where
   s = t.before.before.before.before
 
   least : OneLeast t.pow-top.result (t.before.before.before.bias.result * t.before.before.pow.result)
-  least = one_least s.pre.0 s.args.x _ _ _ t.pow-top.ensures (one t.before.before) t.before.sign_word_lem.ensures
+  least = one_least s.requires.0 s.args.x _ _ _ t.pow-top.ensures (one t.before.before) t.before.sign_word_lem.ensures
 
 sub-result : tie.Need-overflow_sub-result
 sub-result c = omega (arith, least c.before)

@@ -20,7 +20,7 @@ module _ (s : tie.Start) where
   f = format s.args.frac s.args.expo
 
   within : (bias f ≤ field f s.args.x) × (field f s.args.x < bias f + s.args.frac)
-  within = omega (arith, exponent_part s.pre.0 s.args.x (omega (arith, s.pre.2)), s.pre.2)
+  within = omega (arith, exponent_part s.requires.0 s.args.x (omega (arith, s.requires.2)), s.requires.2)
 
 -- the mask is that of the bits behind the point
 part : (c : tie.After-fraction_mask) → Part (f c.before) c.before.args.x c.fraction_mask.result

@@ -23,7 +23,7 @@ restored-is c =
     e ∙ ap (λ t. exactly (fmt s) (units_at (fmt s) t s.args.exp)) c.before.nearest_multiple-near.ensures.1
 
 back : (c : tie.After-signed_quotient) → SFits w32 c.signed_quotient.result
-back c = record { sfits = c.signed_quotient.type-inv }
+back c = record { sfits = c.signed_quotient.type_inv }
 
 returns : tie.Need-returns
 returns c =

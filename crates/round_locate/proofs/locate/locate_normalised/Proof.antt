@@ -47,13 +47,13 @@ module _ (c : tie.After-pow-last) (in_field : c.before.wrapping_sub_u32-up.resul
   up = c.before.wrapping_sub_u32-up.result
 
   field_is : s.args.at + (63 - s.args.frac) ≡ up + 2 ^ 21
-  field_is = omega (arith, in_field, c.pow-last.ensures, fields_small s.pre.0, c.before.wrapping_sub_u32-up.ensures)
+  field_is = omega (arith, in_field, c.pow-last.ensures, fields_small s.requires.0, c.before.wrapping_sub_u32-up.ensures)
 
   normal : Stands s.args.frac s.args.expo s.args.sig s.args.at s.args.sig up (63 - s.args.frac)
-  normal = stands_normal s.pre.0 s.args.sig s.args.at s.pre.1 (omega arith) up field_is (omega (arith, in_field, c.pow-last.ensures, four_fields s.pre.0))
+  normal = stands_normal s.requires.0 s.args.sig s.args.at s.requires.1 (omega arith) up field_is (omega (arith, in_field, c.pow-last.ensures, four_fields s.requires.0))
 
   fits : (s.args.frac < 63) × (1 ≤ 63 - s.args.frac) × (63 - s.args.frac ≤ 64) × (up * 2 ^ s.args.frac + s.args.sig / 2 ^ (63 - s.args.frac) < 2 ^ 63)
-  fits = let w = s.pre.0 in (omega (arith, w.word, w.fair.expo_two), normal.least, normal.most, room w normal)
+  fits = let w = s.requires.0 in (omega (arith, w.word, w.fair.expo_two), normal.least, normal.most, room w normal)
 
 shift-out-under-requires : tie.Need-shift_out_under-requires
 shift-out-under-requires c κs = fits c.before (omega arith)

@@ -31,7 +31,7 @@ to_is c =
     (simp (to_z-of_z, s.ranges.n) at c.move_field-to.ensures) ∙ ap (λ v. s.args.n +ℤ pos v) c.before.exponent_field.ensures
 
 to_back : (c : tie.After-move_field-to) → SFits w64 c.move_field-to.result
-to_back c = record { sfits = c.move_field-to.type-inv }
+to_back c = record { sfits = c.move_field-to.type_inv }
 
 field_is : (c : tie.After-field_or_zero) → let s = c.before.before.before in c.field_or_zero.result ≡ above (moved_to (fmt s) s.args.x s.args.n)
 field_is c = (simp (to_z-of_z, to_back c.before) at c.field_or_zero.ensures) ∙ ap above (to_is c.before)

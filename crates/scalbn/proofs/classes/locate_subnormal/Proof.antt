@@ -26,7 +26,7 @@ near_is c =
     (simp (to_z-of_z, s.ranges.n) at c.clamp_exponent-near.ensures) ∙ ap (λ v. clamp (v + s.args.frac) s.args.n) c.before.pow.ensures
 
 near-back : (c : tie.After-clamp_exponent-near) → SFits w32 c.clamp_exponent-near.result
-near-back c = record { sfits = c.clamp_exponent-near.type-inv }
+near-back c = record { sfits = c.clamp_exponent-near.type_inv }
 
 reach-room : (c : tie.After-pow) → c.pow.result + c.before.args.frac < 2 ^ 17
 reach-room c = omega (arith, c.pow.ensures, reach_in_word c.before.requires)

@@ -23,7 +23,7 @@ to_is c =
     (simp (to_z-of_z, s.ranges.n) at c.move_field.ensures) ∙ ap (λ v. s.args.n +ℤ pos v) c.before.exponent_field.ensures
 
 to_back : (c : tie.After-move_field) → SFits w64 c.move_field.result
-to_back c = record { sfits = c.move_field.type-inv }
+to_back c = record { sfits = c.move_field.type_inv }
 
 move-field-requires : tie.Need-move_field-requires
 move-field-requires c κs = omega (arith, c.exponent_field.ensures, field_in_word c.before.requires c.before.args.x)

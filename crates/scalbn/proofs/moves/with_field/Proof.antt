@@ -25,13 +25,13 @@ module _ (c : tie.After-exponent_field) where
   new_is = ap (λ u. s.args.to * u) c.before.pow-unit.ensures
 
   pattern : Pattern f (s.args.x - field f s.args.x * 2 ^ s.args.frac + s.args.to * 2 ^ s.args.frac)
-  pattern = moved_pattern f s.args.x s.pre.1 s.args.to s.pre.2
+  pattern = moved_pattern f s.args.x s.requires.1 s.args.to s.requires.2
 
   room : s.args.x - field f s.args.x * 2 ^ s.args.frac + s.args.to * 2 ^ s.args.frac < 2 ^ 64
-  room = omega (arith, pattern, pow_mono {i = s.args.frac + s.args.expo} {j = 63} s.pre.0.word)
+  room = omega (arith, pattern, pow_mono {i = s.args.frac + s.args.expo} {j = 63} s.requires.0.word)
 
   old-room : c.exponent_field.result * c.before.pow-unit.result ≤ s.args.x
-  old-room = omega (arith, old-is, field_below f s.args.x s.pre.1)
+  old-room = omega (arith, old-is, field_below f s.args.x s.requires.1)
 
 returns : tie.Need-returns
 returns c = let e = ap₂ (λ o n. (s c).args.x - o + n) (old-is c) (new_is c) in (e, omega (arith, e, pattern c))

@@ -19,13 +19,13 @@ module _ (c : tie.After-infinity-inf) where
 
   -- there are normal numbers
   least-below : 2 ^ s.args.frac ≤ inf f
-  least-below = omega (arith, infinity_top f, pow-add 2 s.args.frac s.args.expo, times_le (2 ^ s.args.frac) (four_fields s.pre))
+  least-below = omega (arith, infinity_top f, pow-add 2 s.args.frac s.args.expo, times_le (2 ^ s.args.frac) (four_fields s.requires))
 
 returns : tie.Need-returns
 returns c =
     let o = c.before in
     let w = c.wrapping_sub_u64 in
-    aside_test (f o) (s o).args.x o.before.pow-least.result _ w.result o.before.pow-least.ensures o.infinity-inf.ensures (omega (arith, least-below o, o.before.pow-least.ensures, o.infinity-inf.ensures)) w.ensures w.type-inv (top_room (s o).requires)
+    aside_test (f o) (s o).args.x o.before.pow-least.result _ w.result o.before.pow-least.ensures o.infinity-inf.ensures (omega (arith, least-below o, o.before.pow-least.ensures, o.infinity-inf.ensures)) w.ensures w.type_inv (top_room (s o).requires)
 
 sub-result : tie.Need-overflow_sub-result
 sub-result c = let o = c.before in omega (arith, least-below o, o.before.pow-least.ensures, o.infinity-inf.ensures)

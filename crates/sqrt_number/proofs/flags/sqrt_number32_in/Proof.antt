@@ -22,7 +22,7 @@ module _ (c : tie.After-lift_exponent-up) where
   split = parts b32 s.args.x c.lift_exponent-up.ensures c.before.norm_of-n.ensures.0 c.before.norm_of-n.ensures.1
 
   prepared : Ready b32 c.before.norm_of-n.result.sig c.lift_exponent-up.result
-  prepared = ready fits32 s.args.x s.pre _ _ split (omega arith)
+  prepared = ready fits32 s.args.x s.requires _ _ split (omega arith)
 
 abbrev word : tie.After-root24-close → tie.After-word_of-word
 word c = c.before.before.before

@@ -30,7 +30,7 @@ module _ (c : tie.After-pow) where
 
   room : (s.args.up / 2 - 2) * c.pow.result + c.before.to_whole-whole.result < 2 ^ 64
   room =
-      omega (arith, number, rounded_room (format s.args.frac s.args.expo) s.args.root s.args.up s.pre.1 way s.args.rem, pow_mono {i = s.args.frac + s.args.expo} {j = 63} s.pre.0.word)
+      omega (arith, number, rounded_room (format s.args.frac s.args.expo) s.args.root s.args.up s.requires.1 way s.args.rem, pow_mono {i = s.args.frac + s.args.expo} {j = 63} s.requires.0.word)
 
 returns : tie.Need-returns
 returns c =

@@ -28,13 +28,13 @@ module _ (s : tie.Start) where
   right = (divided s.args.e d * B + l) / d
 
   normal : B ≤ 2 * (d / B)
-  normal = omega (arith, s.pre.0)
+  normal = omega (arith, s.requires.0)
 
   stays : q * (d % B) ≤ rest * B + l → q ≡ max right (q - 1)
-  stays h = step_stays right q (both_ways q right (not_too_large B d l normal s.pre.1 q rest h) s.pre.3)
+  stays h = step_stays right q (both_ways q right (not_too_large B d l normal s.requires.1 q rest h) s.requires.3)
 
   below : rest * B + l < q * (d % B) → right < q
-  below h = too_large B d l normal s.pre.1 q rest h
+  below h = too_large B d l normal s.requires.1 q rest h
 
 returns : tie.Need-returns-then-rest-ge4294967296
 returns c =

@@ -34,17 +34,17 @@ module _ (s : tie.Start) where
   upper_is = div-add-mod' h (d / B)
 
   normal : B ≤ 2 * (d / B)
-  normal = omega (arith, s.pre.0)
+  normal = omega (arith, s.requires.0)
 
   -- the digit, given the upper part
   abbrev digit-of : ℕ → ℕ
   digit-of x = (x * B + l) / d
 
   low : digit-of upper ≤ q
-  low = estimate_ge B d l normal s.pre.1 upper q rest refl (mod-lt h (omega (arith, normal)))
+  low = estimate_ge B d l normal s.requires.1 upper q rest refl (mod-lt h (omega (arith, normal)))
 
   high : q ≤ digit-of upper + 2
-  high = estimate_two B d l normal s.pre.1 upper q rest (omega (arith, upper_is, s.pre.2)) refl
+  high = estimate_two B d l normal s.requires.1 upper q rest (omega (arith, upper_is, s.requires.2)) refl
 
 div-wrapping-sub-u64 : tie.Need-nonzero_div-first
 div-wrapping-sub-u64 c = search rules
@@ -99,7 +99,7 @@ returns c =
     let s = c.before.before.before in
     let e = c.before.adjust_estimate-third.result in
     let w = c.wrapping_sub_u64-left in
-    rest_unwraps (B s) (d s) (l s) (normal s) s.requires.1 (h s) e.digit e.rest w.result (omega arith) (third-upper c.before) (third-right c.before) w.type-inv (omega arith)
+    rest_unwraps (B s) (d s) (l s) (normal s) s.requires.1 (h s) e.digit e.rest w.result (omega arith) (third-upper c.before) (third-right c.before) w.type_inv (omega arith)
 
 pub quotient_digit_spec : {M : Type 1} → statement M
 quotient_digit_spec =
