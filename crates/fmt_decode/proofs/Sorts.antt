@@ -18,11 +18,11 @@ module _ (f : Format) (some : 0 < inf f) (x y : ℕ) where
 
   pub y_nan : inf f < magnitude f y → no_remainder f x y ≡ true
   unfolding no_remainder
-  y_nan l = rw (kind_nan f y l) (divide_by_nan _ _ _ (kind f x))
+  y_nan l = rw (kind_nan f y l) (divide_by_nan true false (λ u v. false) (kind f x))
 
   pub y_zero : magnitude f y ≡ 0 → no_remainder f x y ≡ true
   unfolding no_remainder
-  y_zero e = rw (kind_finite f y (omega arith) ∙ ap finite (ap (units f) e ∙ units_zero f)) (divide_by_zero _ _ _ (kind f x))
+  y_zero e = rw (kind_finite f y (omega arith) ∙ ap finite (ap (units f) e ∙ units_zero f)) (divide_by_zero true false (λ u v. false) (kind f x))
 
   pub both_with : magnitude f x < inf f → 0 < magnitude f y → magnitude f y ≤ inf f → no_remainder f x y ≡ false
   unfolding no_remainder divide

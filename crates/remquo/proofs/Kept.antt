@@ -1,8 +1,10 @@
 -- The rows of remquo that need no division: the canonical NaN where there is no remainder, and x itself for an infinite y or a zero x. Assumes nothing.
-use Rattle.std.proofs.Common.{◌≡◌, ℕ, suc, ◌-◌, ◌<◌, true, false, pos, sym, ap, ◌∙◌, arith}
+use Rattle.std.proofs.Common.{◌≡◌, ℕ, suc, ◌-◌, ◌*◌, ◌%◌, ◌^◌, ◌<◌, true, false, pos, sym, ap, ◌∙◌, arith}
 use Rattle.ieee.specs.Format.{Format, inf, canonical, units}
-use Rattle.ieee.specs.Pattern.{Pattern, magnitude, kind, finite}
-use Rattle.ieee.specs.Remquo.{remquo_of, quotient_of}
+use Rattle.ieee.specs.Pattern.{Pattern, minus, magnitude, kind, finite, unlike, with_sign}
+use Rattle.ieee.specs.Round.{even}
+use Rattle.ieee.specs.Whole.{whole}
+use Rattle.ieee.specs.Remquo.{rest, remquo_of, quotient_of}
 use Rattle.ieee.proofs.Units.{units_lt, units_zero}
 use Rattle.ieee.proofs.Patterns.{kind_finite, kind_infinite}
 use Rattle.ieee.proofs.Remquos.{remquo_rows}
@@ -12,7 +14,10 @@ use Rattle.fmt_decode.proofs.Sorts.{no_remainder_none, Remains, remains}
 module _ (f : Format) (x y : ℕ) where
   pub none_left : no_remainder f x y ≡ true → (canonical f ≡ remquo_of f x y) × (pos 0 ≡ quotient_of f x y)
   unfolding remquo_of quotient_of
-  none_left e = (sym (no_remainder_none _ _ _ f x y e), sym (no_remainder_none _ _ _ f x y e))
+  none_left e = (
+    sym (no_remainder_none _ _ (λ u v. rest f (minus f x) u (whole even u v * v)) f x y e),
+    sym (no_remainder_none _ _ (λ u v. with_sign (unlike (minus f x) (minus f y)) (whole even u v % 2 ^ 31)) f x y e),
+  )
 
   module _ (positive : 0 < inf f) (some : no_remainder f x y ≡ false) where
     pub here : Remains f positive x y

@@ -16,7 +16,7 @@ root24-requires c κs =
     let t = c.before in
     let w = t.before in
     let s = w.before in
-    let (h, g) = begun b32 _ _ s.requires _ w.word_of-word.ensures _ _ t.step_of_lem.ensures c.reciprocal.ensures in
+    let (h, g) = begun b32 _ _ s.requires _ w.word_of-word.ensures _ _ t.step_of.ensures c.reciprocal.ensures in
     (h, rw w.word_of-word.ensures (half_empty s.args.sig (s.args.up % 2)), g)
 
 roomy : (c : tie.After-root24-close) → Room b32 c.root24-close.result.root c.before.before.before.before.args.up

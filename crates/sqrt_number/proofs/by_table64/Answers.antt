@@ -7,7 +7,7 @@ use Rattle.sqrt_number.proofs.by_table64.Goals as goal
 
 pub root53-close-requires : goal.root53-close-requires
 root53-close-requires c =
-    begun b64 _ _ c.requires _ c.word_of-word.ensures _ _ c.step_of_lem.ensures c.reciprocal.ensures
+    begun b64 _ _ c.requires _ c.word_of-word.ensures _ _ c.step_of.ensures c.reciprocal.ensures
 
 pub round_near-requires : goal.round_near-requires
 round_near-requires c =

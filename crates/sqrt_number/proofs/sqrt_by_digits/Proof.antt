@@ -27,8 +27,8 @@ module _ (c : tie.After-floor_root) where
   l = c.before.before
 
   -- the root is that of the radicand of the parts
-  rooted : FloorRoot (pairs (word_of (s l).args.frac (n l).norm_of.result.sig l.lift_exponent-up.result) ((s l).args.frac + 2)) c.floor_root.result.root
-      × (c.floor_root.result.exact ≡ eqb (c.floor_root.result.root * c.floor_root.result.root) (pairs (word_of (s l).args.frac (n l).norm_of.result.sig l.lift_exponent-up.result) ((s l).args.frac + 2)))
+  rooted : FloorRoot (pairs (word_of (s l).args.frac (n l).norm_of-n.result.sig l.lift_exponent-up.result) ((s l).args.frac + 2)) c.floor_root.result.root
+      × (c.floor_root.result.exact ≡ eqb (c.floor_root.result.root * c.floor_root.result.root) (pairs (word_of (s l).args.frac (n l).norm_of-n.result.sig l.lift_exponent-up.result) ((s l).args.frac + 2)))
   rooted =
       subst (λ m. FloorRoot (pairs m ((s l).args.frac + 2)) c.floor_root.result.root × (c.floor_root.result.exact ≡ eqb (c.floor_root.result.root * c.floor_root.result.root) (pairs m ((s l).args.frac + 2))))
       c.before.word_of.ensures c.floor_root.ensures
@@ -46,7 +46,7 @@ add-floor-root : tie.Need-overflow_add-frac
 add-floor-root c = search rules
 
 floor-root-requires : tie.Need-floor_root-requires
-floor-root-requires c κs = omega (arith, fraction_few (s c.before).pre.0)
+floor-root-requires c κs = omega (arith, fraction_few (s c.before).requires.0)
 
 round-root-requires : tie.Need-round_root-requires
 round-root-requires c κs =

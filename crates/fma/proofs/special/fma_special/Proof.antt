@@ -57,12 +57,12 @@ module _ (c : tie.Else-mz-inf) where
 of-infinite-product-requires : tie.Need-of_infinite_product-requires
 of-infinite-product-requires c κs =
     let o = c.before in
-    ((s (m o)).pre.0, x-most o, y-most o, z-most o, inl (sym (x_is (m o)) ∙ c.if-mx-inf-2.true ∙ inf_is (m o)))
+    ((s (m o)).requires.0, x-most o, y-most o, z-most o, inl (sym (x_is (m o)) ∙ c.if-mx-inf-2.true ∙ inf_is (m o)))
 
 of-infinite-product-requires-2 : tie.Need-of_infinite_product-requires-then-my-inf-2
 of-infinite-product-requires-2 c κs =
     let o = c.before.before in
-    ((s (m o)).pre.0, x-most o, y-most o, z-most o, inr (sym (y_is (m o)) ∙ c.if-my-inf-2.true ∙ inf_is (m o)))
+    ((s (m o)).requires.0, x-most o, y-most o, z-most o, inr (sym (y_is (m o)) ∙ c.if-my-inf-2.true ∙ inf_is (m o)))
 
 -- neither factor is infinite
 module _ (c : tie.Else-my-inf-2) where
@@ -78,14 +78,14 @@ module _ (c : tie.Else-my-inf-2) where
 returns-6 : tie.Need-returns-then-mz-inf-2
 returns-6 c =
     let k = m (o c.before) in
-    infinite_z (f k) (attribute_of (s k).args.attribute) (s k).args.x (s k).args.y (s k).args.z (s k).pre.1 (x-finite c.before) (y-finite c.before) (sym (z-is k) ∙ c.if-mz-inf-2.true ∙ inf_is k)
+    infinite_z (f k) (attribute_of (s k).args.attribute) (s k).args.x (s k).args.y (s k).args.z (s k).requires.1 (x-finite c.before) (y-finite c.before) (sym (z-is k) ∙ c.if-mz-inf-2.true ∙ inf_is k)
 
 of-zero-product-requires : tie.Need-of_zero_product-requires
 of-zero-product-requires c κs =
     let e = c.before in
     let k = m (o e) in
     let z : magnitude (f k) (s k).args.z < inf (f k) = omega (arith, z-is k, inf_is k, z-most (o e), c.if-mz-inf-2.false) in
-    ((s k).pre.0, (s k).pre.1, x-finite e, y-finite e, z, then_zero (f k) (s k).args.x (s k).args.y (s k).args.z (s k).pre.2 (x-finite e) (y-finite e) z)
+    ((s k).requires.0, (s k).requires.1, x-finite e, y-finite e, z, then_zero (f k) (s k).args.x (s k).args.y (s k).args.z (s k).requires.2 (x-finite e) (y-finite e) z)
 
 infinity-requires : tie.Need-infinity-inf-requires
 infinity-requires c κs = search rules

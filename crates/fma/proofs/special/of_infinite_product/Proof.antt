@@ -69,14 +69,14 @@ returns-4 : tie.Need-returns-then-neg-is_negative
 returns-4 c =
     let n = c.before in
     let v = w n in
-    λ a. answer_is v ∙ decides (f v) a (s v).args.x (s v).args.y (s v).args.z (product v) (s v).pre.3 (λ h. sym (signs n) ∙ ap not c.if-neg-is_negative.true)
+    λ a. answer_is v ∙ decides (f v) a (s v).args.x (s v).args.y (s v).args.z (product v) (s v).requires.3 (λ h. sym (signs n) ∙ ap not c.if-neg-is_negative.true)
 
 returns-5 : tie.Need-returns
 returns-5 c =
     let n = c.before.before in
     let v = w n in
     let m = n.before.before in
-    let e : magnitude (f v) (s v).args.z ≡ inf (f v) = omega (arith, m.magnitude_of-3.ensures, n.before.if-magnitude_of-inf.false, v.before.infinity-inf.ensures, (s v).pre.3) in
+    let e : magnitude (f v) (s v).args.z ≡ inf (f v) = omega (arith, m.magnitude_of-3.ensures, n.before.if-magnitude_of-inf.false, v.before.infinity-inf.ensures, (s v).requires.3) in
     λ a. c.nan-2.ensures ∙ opposite (f v) a (s v).args.x (s v).args.y (s v).args.z (product v) e (sym (signs n) ∙ ap not c.before.if-neg-is_negative.false)
 
 magnitude-of-requires : tie.Need-magnitude_of-requires

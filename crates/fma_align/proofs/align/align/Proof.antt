@@ -20,7 +20,7 @@ module _ (c : tie.After-subtract_exponents) where
   s = c.before
 
   lowered : c.subtract_exponents.result ≡ s.args.g -ℤ pos 38
-  lowered = simp (to_z-of_z, s.fits.g) at c.subtract_exponents.ensures
+  lowered = simp (to_z-of_z, s.ranges.g) at c.subtract_exponents.ensures
 
   small : mag c.subtract_exponents.result < 2 ^ 19
   small =
@@ -48,7 +48,7 @@ module _ (c : tie.After-sides_of-at) where
   sides =
       let h = c.before.subtract_exponents.result in
       let e = o.args.e in
-      let (a, b) = simp (to_z-of_z, o.fits.e, sfits c.before) at c.sides_of-at.ensures in
+      let (a, b) = simp (to_z-of_z, o.ranges.e, sfits c.before) at c.sides_of-at.ensures in
       let (i, j) = sides_told e h a b in
       omega (arith, i, j, sub_z h e, one_z (h -ℤ e), eq_z_fact (lowered c.before), sub_z o.args.g (pos 38), sub_z o.args.g e)
 

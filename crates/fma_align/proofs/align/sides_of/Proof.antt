@@ -25,7 +25,7 @@ module _ (c : tie.After-larger-top) where
   t = c.larger-top.result
 
   top : Top s.args.a s.args.b t
-  top = top_is s.args.a s.args.b t (simp (to_z-of_z, s.fits.a, s.fits.b) at c.larger-top.ensures)
+  top = top_is s.args.a s.args.b t (simp (to_z-of_z, s.ranges.a, s.ranges.b) at c.larger-top.ensures)
 
   small : mag t < 2 ^ 19
   small = top.small (2 ^ 19) s.requires.0 s.requires.1

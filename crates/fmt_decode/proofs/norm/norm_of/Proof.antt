@@ -65,7 +65,14 @@ returns c =
     (r.0 ∙ i, r.1 ∙ j, r.2, r.3)
 
 returns-2 : tie.Need-returns
-returns-2 c = search rules
+returns-2 c =
+    let z = c.before.before.before in (
+      mod-eq_of_lt (sig-room z) ∙ sig_is z,
+      simp (to_z-of_z, exp-word (n z), zeros-pos z, less_fits z) (exp-is z),
+      (n z).unpack-n.ensures.2,
+      simp (to_z-of_z, exp-word (n z), zeros-pos z, less_fits z) (exp-goes z),
+    )
+
 unpack-requires : tie.Need-unpack-n-requires
 unpack-requires c κs = search rules
 

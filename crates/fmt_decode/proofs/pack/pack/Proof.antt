@@ -46,11 +46,11 @@ module _ (c : tie.Then-up-lt0) where
   down = pos 0 -ℤ by l
 
   below : lt_z (by l) (pos 0) ≡ true
-  below = simp (to_z-of_z, (s l).fits.exp, low_word l, by_fits l) at c.if-up-lt0.true
+  below = simp (to_z-of_z, (s l).ranges.exp, low_word l, by_fits l) at c.if-up-lt0.true
 
   down_small : (dn down ≡ 0) × (nat_abs down < 64)
   down_small =
-      omega (arith, lt_z_true (by l) (pos 0) below, sub_z (pos 0) (by l), abs_z down, one_z (by l), by-bounds l, (s l).pre.0.word)
+      omega (arith, lt_z_true (by l) (pos 0) below, sub_z (pos 0) (by l), abs_z down, one_z (by l), by-bounds l, (s l).requires.0.word)
 
   down_fits : SFits w32 down
   down_fits = sfits_z w32 down (omega (arith, down_small, abs_z down)) (omega (arith, down_small))
@@ -60,7 +60,7 @@ module _ (c : tie.Else-up-lt0) where
   h = c.before
 
   not_below : lt_z (by h) (pos 0) ≡ false
-  not_below = simp (to_z-of_z, (s h).fits.exp, low_word h, by_fits h) at c.if-up-lt0.false
+  not_below = simp (to_z-of_z, (s h).ranges.exp, low_word h, by_fits h) at c.if-up-lt0.false
 
   by-natural : dn (by h) ≡ 0
   by-natural = omega (arith, lt_z_false (by h) (pos 0) not_below, one_z (by h))
@@ -69,9 +69,17 @@ module _ (c : tie.Else-up-lt0) where
   units-up = shifted_up (s h).args.sig (by h) not_below ∙ units-are h
 
 returns : tie.Need-returns-then-up-lt0
-returns c = search rules
+returns c =
+    let o = l c in
+    let a = (s o).args in
+    simp (to_z-of_z, (s o).ranges.exp, low_word o, by_fits o, down_fits c)
+    (own_magnitude (fmt (s o)) a.sig (nat_abs (down c)) _ (omega (arith, (s o).requires.1, pow-add 2 a.frac 1)) (shifted_down a.sig (by o) (below c) ∙ units-are o) (s o).requires.3)
+
 returns-2 : tie.Need-returns
-returns-2 c = search rules
+returns-2 c =
+    let o = h c.before in
+    (simp (to_z-of_z, (s o).ranges.exp, low_word o, by_fits o) at c.pack_units.ensures) ∙ ap (exactly (fmt (s o))) (units-up c.before)
+
 low-of-requires : tie.Need-low_of-requires
 low-of-requires c κs = search rules
 
@@ -79,17 +87,30 @@ add-up : tie.Need-overflow_add-up
 add-up c = simp (to_z-of_z, (s c).ranges.exp, low_word c) (by_fits c)
 
 sub-result : tie.Need-overflow_sub-result
-sub-result c = search rules
+sub-result c = simp (to_z-of_z, (s (l c)).ranges.exp, low_word (l c), by_fits (l c)) (down_fits c)
+
 cast-result : tie.Need-overflow_cast-result
-cast-result c = search rules
+cast-result c =
+    simp (to_z-of_z, (s (l c)).ranges.exp, low_word (l c), by_fits (l c), down_fits c)
+    (non_neg_z (down c) (omega (arith, down_small c)), record { fits = omega (arith, down_small c) })
+
 cast-result-2 : tie.Need-overflow_cast-result-then-up-lt0
-cast-result-2 c = search rules
+cast-result-2 c = simp (to_z-of_z, (s (l c)).ranges.exp, low_word (l c), by_fits (l c), down_fits c) (record { fits = omega (arith, down_small c) })
+
 shr-result : tie.Need-overflow_shr-result
-shr-result c = search rules
+shr-result c = simp (to_z-of_z, (s (l c)).ranges.exp, low_word (l c), by_fits (l c), down_fits c) (down_small c).1
+
 cast-pack-units : tie.Need-overflow_cast-up
-cast-pack-units c = search rules
+cast-pack-units c =
+    let o = h c in
+    simp (to_z-of_z, (s o).ranges.exp, low_word o, by_fits o)
+    (non_neg_z (by o) (omega (arith, by-natural c)), record { fits = omega (arith, abs_z (by o), by-natural c, by-bounds o) })
+
 pack-units-requires : tie.Need-pack_units-requires
-pack-units-requires c κs = search rules
+pack-units-requires c κs =
+    let o = h c in
+    simp (to_z-of_z, (s o).ranges.exp, low_word o, by_fits o) ((s o).requires.0, (s o).requires.1, omega (arith, units-up c, (s o).requires.3))
+
 pub pack_spec : {M : Type 1} → statement M
 pack_spec =
     tie.close

@@ -41,7 +41,7 @@ module _ (c : tie.After-pow) where
 
   parts : ((s o).args.sig * 2 ^ most < 2 ^ 64) × ((s o).args.sig * 2 ^ most + (up - most) * 2 ^ (s o).args.frac ≡ exactly (format (s o).args.frac (s o).args.expo) ((s o).args.sig * 2 ^ up))
       × ((s o).args.sig * 2 ^ most + (up - most) * 2 ^ (s o).args.frac < 2 ^ 63)
-  parts = high_packed (s o).pre.0 (s o).args.sig up (s o).pre.2 (z o) (s o).pre.1 (top o) (omega (arith, c.before.if-up-most.false))
+  parts = high_packed (s o).requires.0 (s o).args.sig up (s o).requires.2 (z o) (s o).requires.1 (top o) (omega (arith, c.before.if-up-most.false))
 
   sum_is : (s o).args.sig * 2 ^ most % 2 ^ 64 + (up - most) * c.pow.result ≡ (s o).args.sig * 2 ^ most + (up - most) * 2 ^ (s o).args.frac
   sum_is = omega (arith, mod-eq_of_lt parts.0, times (up - most) c.pow.ensures)

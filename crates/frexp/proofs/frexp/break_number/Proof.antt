@@ -78,10 +78,10 @@ mul-with-sign : tie.Need-overflow_mul-half
 mul-with-sign c = record { fits = omega (arith, packed-small c, top_room (s c).requires.0) }
 
 add-with-sign : tie.Need-overflow_add-n
-add-with-sign c = record { fits = omega (arith, packed-small c.before, top_room (s c.before).pre.0) }
+add-with-sign c = record { fits = omega (arith, packed-small c.before, top_room (s c.before).requires.0) }
 
 with-sign-requires : tie.Need-with_sign-requires
-with-sign-requires c κs = ((s c.before).pre.0, packed-small c.before)
+with-sign-requires c κs = ((s c.before).requires.0, packed-small c.before)
 
 leading-exponent-requires : tie.Need-leading_exponent-requires
 leading-exponent-requires c κs = search rules

@@ -66,12 +66,12 @@ module _ (c : tie.Else-not-e) where
 add-t17 : tie.Need-overflow_add-result
 add-t17 c =
     let e = c.before.before.before.before in
-    record { fits = omega (arith, c.before.size_if.ensures, part e (not (at_exponent e).read_exponent.result.neg), (start (at_exponent e)).pre.1) }
+    record { fits = omega (arith, c.before.size_if.ensures, part e (not (at_exponent e).read_exponent-e.result.neg), (start (at_exponent e)).requires.1) }
 
 add-t22 : tie.Need-overflow_add-result-3
 add-t22 c =
     let e = c.before.before.before.before.before in
-    record { fits = omega (arith, c.size_if-2.ensures, part e (at_exponent e).read_exponent.result.neg, (start (at_exponent e)).pre.2) }
+    record { fits = omega (arith, c.size_if-2.ensures, part e (at_exponent e).read_exponent-e.result.neg, (start (at_exponent e)).requires.2) }
 
 returns-5 : tie.Need-returns
 returns-5 c neg d h =

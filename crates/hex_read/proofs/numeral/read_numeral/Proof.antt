@@ -41,7 +41,7 @@ returns-2 c =
     let g = n.before.before in
     let s = start g in
     number_found _ _ s.args.s.now (omega arith) n.read_number-n.result _ g.after_sign-start.result g.after_sign-start.ensures s.requires.1
-    (n.read_number-n.ensures (eqb (get_or s.args.s.now 0 0) 45)) t.if-n.true c.as_found.ensures.0 (c.as_found.ensures.1 ∙ c.before.value_of_lem.ensures)
+    (n.read_number-n.ensures (eqb (get_or s.args.s.now 0 0) 45)) t.if-n.true c.as_found.ensures.0 (c.as_found.ensures.1 ∙ c.before.value_of.ensures)
 
 returns-3 : tie.Need-returns
 returns-3 c =

@@ -5,22 +5,13 @@ use Rattle.hex_write.proofs.Texts.{aside_nan, aside_minus, aside_plus}
 use borrow.Author.Rules.{rules}
 use Rattle.hex_write.proofs.write.write_aside.Goals as goal
 
-slice-aggregate-write-text : goal.Need-slice-aggregate-write-text
-slice-aggregate-write-text c = search rules
-
 pub returns-then-fraction-gt0 : goal.returns-then-fraction-gt0
 returns-then-fraction-gt0 c =
     wrote_as c.args.out.now (aside_nan c.args.neg c.args.fraction (omega arith)) c.write_text.ensures
 
-slice-aggregate-write-text-2 : goal.Need-slice-aggregate-write-text-2
-slice-aggregate-write-text-2 c = search rules
-
 pub returns-then-neg : goal.returns-then-neg
 returns-then-neg c =
     wrote_as c.args.out.now (aside_minus c.args.neg c.args.fraction (omega arith) c.if-neg.true) c.write_text-then-neg.ensures
-
-slice-aggregate-write-text-3 : goal.Need-slice-aggregate-write-text-3
-slice-aggregate-write-text-3 c = search rules
 
 pub returns : goal.returns
 returns c =

@@ -57,7 +57,7 @@ returns c =
     wrote_text (fmt p) (start p).args.x (start p).args.out.now (text_aside (taken p) (omega (arith, w.before.before.if-field-pow.true, p.pow.ensures))) w.write_aside.ensures
 
 fraction-part-requires : tie.Need-fraction_part-requires
-fraction-part-requires c κs = ((start c.before.before).pre, fraction_below c.before.before)
+fraction-part-requires c κs = ((start c.before.before).requires, fraction_below c.before.before)
 
 exponent-part-requires : tie.Need-exponent_part-requires
 exponent-part-requires c κs = let p = c.before.before.before in ((start p).requires.fair.expo_two, (start p).requires.small, field_below p)

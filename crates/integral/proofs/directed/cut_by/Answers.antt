@@ -14,6 +14,6 @@ returns c =
     cut_in_words g c.args.x c.args.mask r (search rules) (search rules) c.wrapping_sub_u64.type_inv c.requires.2
     (ap (λ n. (r + n / d * d) % 2 ^ 64) (sym e)
     ∙ ap (λ n. (r + n) % 2 ^ 64) (sym c.clear_under-2.ensures)
-    ∙ c.wrapping_sub_u64.ensures
+    ∙ c.wrapping_sub_u64.ensures.value
     ∙ c.clear_under.ensures
-    ∙ ap (λ n. n / d * d) (c.wrapping_add_u64-less.ensures ∙ ap (λ n. (c.args.x + n) % 2 ^ 64) e))
+    ∙ ap (λ n. n / d * d) (c.wrapping_add_u64-less.ensures.value ∙ ap (λ n. (c.args.x + n) % 2 ^ 64) e))

@@ -34,19 +34,19 @@ module _ (t : tie.After-pow-top) where
   s = t.before.before.before.before
 
   least : OneLeast t.pow-top.result (t.before.before.before.bias.result * t.before.before.pow.result)
-  least = one_least s.requires.0 s.args.x _ _ _ t.pow-top.ensures (one t.before.before) t.before.sign_word_lem.ensures
+  least = one_least s.requires.0 s.args.x _ _ _ t.pow-top.ensures (one t.before.before) t.before.sign_word-sign.ensures
 
 sub-result : tie.Need-overflow_sub-result
 sub-result c = omega (arith, least c.before)
 
 add-result : tie.Need-overflow_add-result
-add-result c = let t = c.before in record { fits = up_fits (s t).requires.0 (s t).args.x _ _ _ t.pow-top.ensures (one t.before.before) t.before.sign_word_lem.ensures }
+add-result c = let t = c.before in record { fits = up_fits (s t).requires.0 (s t).args.x _ _ _ t.pow-top.ensures (one t.before.before) t.before.sign_word-sign.ensures }
 
 returns : tie.Need-returns-then-up
 returns c =
     let t = c.before in
     let x = (s t).args.x in
-    up_in_words (s t).requires.0 x _ _ _ t.pow-top.ensures (one t.before.before) t.before.sign_word_lem.ensures
+    up_in_words (s t).requires.0 x _ _ _ t.pow-top.ensures (one t.before.before) t.before.sign_word-sign.ensures
     ∙ ap (λ u. one_or_zero (format (s t).args.frac (s t).args.expo) u x) (sym c.if-up.true)
 
 add-result-2 : tie.Need-overflow_add-result-2
@@ -56,7 +56,7 @@ returns-2 : tie.Need-returns
 returns-2 c =
     let t = c.before in
     let x = (s t).args.x in
-    down_in_words (s t).requires.0 x _ _ _ t.pow-top.ensures (one t.before.before) t.before.sign_word_lem.ensures
+    down_in_words (s t).requires.0 x _ _ _ t.pow-top.ensures (one t.before.before) t.before.sign_word-sign.ensures
     ∙ ap (λ u. one_or_zero (format (s t).args.frac (s t).args.expo) u x) (sym c.if-up.false)
 
 pub one_or_zero_spec : {M : Type 1} → statement M

@@ -6,8 +6,3 @@ use Rattle.integral.proofs.directed.sign_word.Goals as goal
 
 pub nonzero_div-x : goal.nonzero_div-x
 nonzero_div-x c = let s = c.args in omega (arith, c.pow.ensures, pow_pos (s.frac + s.expo))
-
-pub returns : goal.returns
-returns c =
-    let w = c.wrapping_sub_u64 in
-    sign_in_words (format c.args.frac c.args.expo) c.args.x w.result c.requires.1 w.type_inv (sym (ap (λ t. (w.result + c.args.x / t) % 2 ^ 64) c.pow.ensures) ∙ w.ensures)

@@ -27,7 +27,7 @@ returns : tie.Need-returns invariant-loop decreases-loop
 returns c =
     let b = c.before.before in
     let s = b.before.before.before.before in
-    c.subtract_once.ensures ∙ ap (λ h. h % s.args.n) c.before.partial_remainder-r.ensures ∙ left_at_last (omega arith) (last b).left
+    c.subtract_once.ensures ∙ ap (λ h. h % s.args.n) c.before.partial_remainder-r.ensures ∙ left_at_last (omega arith) (last b.before).left
 
 new-requires : tie.Need-new-state-requires invariant-loop decreases-loop
 new-requires c κs = search rules
@@ -52,10 +52,10 @@ shift-reduce-requires : tie.Need-shift_reduce-last-requires invariant-loop decre
 shift-reduce-requires c κs = (c.before.loop-left.invariant.0.state.reduces, omega arith)
 
 partial-remainder-requires : tie.Need-partial_remainder-r-requires invariant-loop decreases-loop
-partial-remainder-requires c κs = (last c).state.reduces
+partial-remainder-requires c κs = (last c.before).state.reduces
 
 subtract-once-requires : tie.Need-subtract_once-requires invariant-loop decreases-loop
-subtract-once-requires c κs = omega (arith, c.partial_remainder-r.ensures, state_below (last c.before).state)
+subtract-once-requires c κs = omega (arith, c.partial_remainder-r.ensures, state_below (last c.before.before).state)
 
 pub by_words_spec : {M : Type 1} → statement M
 by_words_spec =

@@ -8,9 +8,6 @@ use Rattle.remquo.proofs.remquo.remquo64.Goals as goal
 pub returns-then-has_no_remainder : goal.returns-then-has_no_remainder
 returns-then-has_no_remainder c = none_left b64 c.args.x c.args.y (sym c.has_no_remainder.ensures ∙ c.if-has_no_remainder.true)
 
-pub returns : goal.returns
-returns c = let e = c.remquo_finite-r.ensures in (e.0, to_z-of_z (record { sfits = c.struct_told.given.1.0.1 }) ∙ e.1)
-
 pub has_no_remainder-requires : goal.has_no_remainder-requires
 has_no_remainder-requires c = fits64
 

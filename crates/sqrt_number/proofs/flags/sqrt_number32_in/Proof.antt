@@ -35,17 +35,17 @@ root24-requires c κs =
     let t = c.before in
     let w = t.before in
     let l = w.before in
-    let (h, g) = begun b32 _ _ (prepared l) _ w.word_of-word.ensures _ _ t.step_of_lem.ensures c.reciprocal.ensures in
+    let (h, g) = begun b32 _ _ (prepared l) _ w.word_of-word.ensures _ _ t.step_of.ensures c.reciprocal.ensures in
     (h, rw w.word_of-word.ensures (half_empty l.before.norm_of-n.result.sig (l.lift_exponent-up.result % 2)), g)
 
-roomy : (c : tie.After-root24-close) → Room b32 c.root24-close.result.root (lifted c).lift_exponent.result
-roomy c = room b32 _ _ (prepared (lifted c)) _ (word c).word_of.ensures _ _ c.root24-close.ensures
+roomy : (c : tie.After-root24-close) → Room b32 c.root24-close.result.root (lifted c).lift_exponent-up.result
+roomy c = room b32 _ _ (prepared (lifted c)) _ (word c).word_of-word.ensures _ _ c.root24-close.ensures
 
 returns : tie.Need-returns
 returns c =
     let r = c.before.before in
     let i = r.before in
-    root_row fits32 (s (lifted i)).args.x (s (lifted i)).pre _ _ (split (lifted i)) (omega arith) _ _ (close b32 _ _ (prepared (lifted i)) _ (word i).word_of.ensures _ _ i.root24-close.ensures) (attribute_of (s (lifted i)).args.attribute) r.round_near-r.ensures
+    root_row fits32 (s (lifted i)).args.x (s (lifted i)).requires _ _ (split (lifted i)) (omega arith) _ _ (close b32 _ _ (prepared (lifted i)) _ (word i).word_of-word.ensures _ _ i.root24-close.ensures) (attribute_of (s (lifted i)).args.attribute) r.round_near-r.ensures
 
 pub sqrt_number32_in_spec : {M : Type 1} → statement M
 sqrt_number32_in_spec =
@@ -55,7 +55,7 @@ sqrt_number32_in_spec =
     (λ c κs. (fits32, c.norm_of-n.ensures.3))
     (λ c κs. (prepared c).leads)
     (λ c κs. ((prepared c.before).leads, omega arith))
-    (λ c κs. c.step_of_lem.ensures.at)
+    (λ c κs. c.step_of.ensures.at)
     root24-requires
     (λ c κs. (fits32, roomy c))
     (λ c. let r = c.before.before in let i = r.before in record { fits = omega (arith, r.round_near-r.ensures.0, rounded_room b32 _ _ (roomy i) (way_of (attribute_of (s (lifted i)).args.attribute) false) i.root24-close.result.rem) })

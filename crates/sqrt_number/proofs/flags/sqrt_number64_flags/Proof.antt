@@ -30,15 +30,15 @@ root53-requires : tie.Need-root53-close-requires
 root53-requires c κs =
     let t = c.before in
     let w = t.before in
-    begun b64 _ _ (prepared w.before) _ w.word_of-word.ensures _ _ t.step_of_lem.ensures c.reciprocal.ensures
+    begun b64 _ _ (prepared w.before) _ w.word_of-word.ensures _ _ t.step_of.ensures c.reciprocal.ensures
 
 round-near-requires : tie.Need-round_near-requires
-round-near-requires c κs = (fits64, room b64 _ _ (prepared (lifted c)) _ (word c).word_of.ensures _ _ c.root53-close.ensures)
+round-near-requires c κs = (fits64, room b64 _ _ (prepared (lifted c)) _ (word c).word_of-word.ensures _ _ c.root53-close.ensures)
 
 returns : tie.Need-returns
 returns c =
     let i = c.before in
-    nearest_row fits64 (s (lifted i)).args.x (s (lifted i)).pre _ _ (split (lifted i)) (omega arith) _ _ (close b64 _ _ (prepared (lifted i)) _ (word i).word_of.ensures _ _ i.root53-close.ensures) c.round_near.ensures
+    nearest_row fits64 (s (lifted i)).args.x (s (lifted i)).requires _ _ (split (lifted i)) (omega arith) _ _ (close b64 _ _ (prepared (lifted i)) _ (word i).word_of-word.ensures _ _ i.root53-close.ensures) c.round_near.ensures
 
 pub sqrt_number64_flags_spec : {M : Type 1} → statement M
 sqrt_number64_flags_spec =
@@ -48,7 +48,7 @@ sqrt_number64_flags_spec =
     (λ c κs. (fits64, c.norm_of-n.ensures.3))
     (λ c κs. (prepared c).leads)
     (λ c κs. ((prepared c.before).leads, omega arith))
-    (λ c κs. c.step_of_lem.ensures.at)
+    (λ c κs. c.step_of.ensures.at)
     root53-requires
     round-near-requires
     returns)

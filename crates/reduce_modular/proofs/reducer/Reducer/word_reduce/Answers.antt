@@ -12,7 +12,7 @@ returns c =
     let z = c.args.self in
     let p = z.product in
     subst (Stepped 64 63 z.m z.r (value p) p.hi z.m z.r) (ap₂ (λ h t. (h + p.lo / 2) * 2 ^ 64 + t) (sym c.mul_hi.ensures) (sym c.mul_lo.ensures))
-    (word_holds_words (omega arith) c.requires p.hi p.lo refl c.struct_known.given.1.1.0.1.0.fits)
+    (word_holds_words (omega arith) c.requires p.hi p.lo refl c.struct_known-1.given.1.1.0.1.0.fits)
 
 pub overflow_add-result : goal.overflow_add-result
 overflow_add-result c =
@@ -20,5 +20,5 @@ overflow_add-result c =
     record {
       fits =
           subst (λ h. h + p.lo / 2 < 2 ^ 64) (sym c.mul_hi.ensures)
-          (word_upper {w = 64} (omega arith) c.requires p.hi p.lo refl c.struct_known.given.1.1.0.1.0.fits);
+          (word_upper {w = 64} (omega arith) c.requires p.hi p.lo refl c.struct_known-1.given.1.1.0.1.0.fits);
     }
