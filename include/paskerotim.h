@@ -17,7 +17,7 @@
      points to must overlap nothing else that the call reads or writes.
 
    Tested and not proved: a call needs no rounding mode and sets none, raises no floating-point flag of the processor, keeps
-   no state, allocates nothing, and may be made from any thread at any time. The answers are the same on x86-64 and on Arm.
+   no state, allocates nothing, and may be made from any thread at any time.
 
    "Rounded once", where no attribute is named, is rounded to nearest: no number of the format is nearer to the exact value,
    and of two that are equally near the answer is the one whose last bit is 0. From halfway between the largest finite number

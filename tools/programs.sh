@@ -1,17 +1,17 @@
-# What tools/run-program, tools/build and tools/prove share: what a program is made of, what was built last, and the end of what runs. Read by them, in
-# sh, with `me`, `root` and `unset CDPATH` set.
+# What tools/build, tools/prove, tools/rattle, tools/run-program and tools/mutate share: what a program or the archive is made of, and what was built last.
+# Read by them, in sh, with `me`, `root` and `unset CDPATH` set.
 built=$root/.built
-machine=$(uname -m)
 
 say() { printf '%s: %s\n' "$me" "$*" >&2; }
 die() { say "$*"; exit 2; }
 misused() { die "$*; tools/$me --help says how it is used"; }
 needs_rt() {
+    [ "$(uname -m)" = x86_64 ] || die "the Rattle toolchain is for x86-64, and this machine is $(uname -m)"
     command -v rt >/dev/null 2>&1 ||
         die "rt, the command of the Rattle toolchain, is not on the PATH: install the toolchain (README.md, 'What is needed') and put its folder bin/ on the PATH"
 }
 
-# The crates named and all that they rest on, each after what it rests on, as NAME:DEP:DEP..
+# The crates named and all that they rest on, each after what it rests on, as NAME:DEP:DEP.., of a static library NAME:staticlib:DEP..
 closure() { # NAMES
     awk -v me="$me" -v names="$*" '
         function visit(n,    deps, count, k, line) {
@@ -23,7 +23,7 @@ closure() { # NAMES
             print line
         }
         { sub(/#.*/, ""); at = index($0, ":") }
-        at { n = substr($0, 1, at - 1); gsub(/[ \t]/, "", n); rest[n] = substr($0, at + 1) }
+        at { split(substr($0, 1, at - 1), n, " "); rest[n[1]] = (n[2] == "staticlib" ? "staticlib " : "") substr($0, at + 1) }
         END {
             count = split(names, wanted, " ")
             for (k = 1; k <= count; k++) {
@@ -33,10 +33,10 @@ closure() { # NAMES
         }' "$root/crates.txt"
 }
 
-# One sum over all that a program is made of: the sources of its crates, by name and content, and what crates.txt says of these crates. No time counts: a
+# One sum over all that crates are made of: their sources, by name and content, and what crates.txt says of them. No time counts: a
 # checkout changes times and no content, and a copy can have content that is new under a time that is old.
-sum_of() ( # NAME
-    cd "$root" && lines=$(closure "$1") || exit 2
+sum_of() ( # NAMES
+    cd "$root" && lines=$(closure "$@") || exit 2
     set -f
     set --
     for line in $lines; do
@@ -47,8 +47,12 @@ sum_of() ( # NAME
     [ $# -gt 0 ] || exit 2
     sum=$({ printf '%s\n' "$lines"; find -L "$@" -type f -exec sha256sum {} +; } | LC_ALL=C sort | sha256sum) && printf '%s\n' "${sum%% *}"
 )
+sum_of_all() {
+    # shellcheck disable=SC2046
+    sum_of $(sed -n 's/#.*//; s/^[[:blank:]]*\([A-Za-z0-9_]*\).*:.*/\1/p' "$root/crates.txt")
+}
 
-# The toolchain's folder, found as rt finds it, and its identity. Nothing where rt is not on the PATH: what is built for this machine runs without it.
+# The toolchain's folder, and its identity. Nothing where rt is not on the PATH: what is built runs without it.
 find_kit() { # sets kit and kit_id
     kit='' kit_id=''
     at=$(command -v rt) || return 0
@@ -56,28 +60,31 @@ find_kit() { # sets kit and kit_id
         link=$(readlink "$at")
         case $link in /*) at=$link ;; *) at=${at%/*}/$link ;; esac
     done
-    kit=${RATTLE_HOME:-${at%/*/*}}
+    kit=${at%/*/*}
     # rt may be a script that calls the toolchain's own
-    [ -r "$kit/KIT-ID" ] || kit=$(dirname "$(dirname "$(rt doc 2>/dev/null)")")
+    [ -r "$kit/KIT-ID" ] || kit=$(dirname "$(rt doc 2>/dev/null)")
     [ -r "$kit/KIT-ID" ] && IFS= read -r kit_id <"$kit/KIT-ID" || kit_id=unknown
 }
 
-# What was built last. .built/NAME.sum says for which kind of machine, from which sources and by which toolchain.
-last_built() { # NAME: sets kind, kept_sum, kept_kit and file
-    kind='' kept_sum='' kept_kit=''
-    [ ! -r "$built/$1.sum" ] || read -r kind kept_sum kept_kit <"$built/$1.sum"
-    file=$built/$1.$kind
-    case $kind in "$machine" | x86_64) [ -x "$file" ] ;; *) false ;; esac
+is_static() { # NAME
+    sed -n 's/^[[:blank:]]*\([A-Za-z0-9_]*\)[[:blank:]]\{1,\}staticlib[[:blank:]]*:.*/\1/p' "$root/crates.txt" 2>/dev/null | grep -qxF -e "$1"
 }
+# What is built of a crate: of a program, .built/NAME; of a static library NAME_c, .built/libNAME.a.
+product() { # NAME: sets file
+    if [ -f "$root/crates/$1/src/main.rt" ]; then file=$built/$1; else file=$built/lib${1%_c}.a; fi
+}
+# .built/NAME.sum says from which sources and by which toolchain it was built last.
 is_fresh() { # NAME; find_kit goes before it
-    last_built "$1" && [ "$(sum_of "$1")" = "$kept_sum" ] && { [ -z "$kit" ] || [ "$kit_id" = "$kept_kit" ]; }
+    product "$1"
+    kept_sum='' kept_kit=''
+    [ ! -r "$built/$1.sum" ] || read -r kept_sum kept_kit <"$built/$1.sum"
+    [ -f "$file" ] && [ "$(sum_of "$1")" = "$kept_sum" ] && { [ -z "$kit" ] || [ "$kit_id" = "$kept_kit" ]; }
 }
 
-# A new folder in memory, where there is room and the caller names no other place: a check copies thousands of files, which takes half the time there.
-in_memory() {
-    [ -z "${TMPDIR-}" ] && [ -d /dev/shm ] && [ -w /dev/shm ] || return 0
-    room=$(df -Pk /dev/shm 2>/dev/null | awk 'NR == 2 { print $4 }')
-    [ "${room:-0}" -lt 4194304 ] || TMPDIR=/dev/shm mktemp -d
+# Whether rt ci has passed here, on the sources that are there now, and what it proved is all that stands in crates/*/out: ./test writes .built/passed, where
+# nothing stood there before it. What a later check leaves there has a stamp.
+is_passed() { # find_kit goes before it
+    [ -r "$built/passed" ] && [ "$(cat "$built/passed")" = "$(sum_of_all) $kit_id" ] && ! ls "$root"/crates/*/out/rlib/stamp >/dev/null 2>&1
 }
 
 # Ends all processes below this one. Each is stopped first, so that none starts another while they are looked for.
@@ -96,3 +103,7 @@ end_below() {
     [ "$stopped" = ' ' ] || kill -KILL $stopped 2>/dev/null
     wait
 }
+
+# How many crates rt works on at a time: one proof can take more than a gigabyte.
+jobs=$(getconf _NPROCESSORS_ONLN 2>/dev/null) || jobs=1
+[ "$jobs" -le 4 ] || jobs=4

@@ -1,7 +1,7 @@
 /* Paskerotim from C. Writes each call as a line: the operation with its operands, an arrow, the answer. To build it from the
-   repository's root, after `rt staticlib paskerotim` (on Arm with the archive that `tools/oracle archive --native` prints):
+   repository's root, where `tools/oracle archive` makes the archive and prints its name:
 
-       cc -std=c99 -I include bindings/c/example.c target/staticlib/libpaskerotim.a -o example */
+       cc -std=c99 -I include bindings/c/example.c "$(tools/oracle archive)" -o example */
 #include <inttypes.h>
 #include <stdio.h>
 

@@ -1,5 +1,5 @@
 //! Links the archive with the operations: the one that PASKEROTIM_ARCHIVE names or, in the
-//! repository, the one that `tools/oracle archive --native` makes for this machine.
+//! repository, the one that `tools/oracle archive` makes for this machine.
 
 use std::env;
 use std::path::{Path, PathBuf};
@@ -47,7 +47,7 @@ fn made() -> PathBuf {
         println!("cargo:rerun-if-changed={}", root.join(part).display());
     }
     let made = Command::new(&oracle)
-        .args(["archive", "--native"])
+        .arg("archive")
         .env("LC_ALL", "C")
         .stdin(Stdio::null())
         .stderr(Stdio::inherit())
@@ -55,7 +55,7 @@ fn made() -> PathBuf {
         .unwrap_or_else(|why| fail(&format!("{} does not run: {why}", oracle.display())));
     if !made.status.success() {
         fail(
-            "no archive to link: tools/oracle archive --native, which needs rt, the command of \
+            "no archive to link: tools/oracle archive, which needs rt, the command of \
              the Rattle toolchain, on the PATH, says above why it made none; \
              or set PASKEROTIM_ARCHIVE to a libpaskerotim.a for this machine",
         );

@@ -47,9 +47,6 @@ macro_rules! request {
 macro_rules! veil {
     (($x:ident: $type:ty $(, $rest:ident: $other:ty)*)) => {
         let mut $x = $x;
-        #[cfg(target_arch = "aarch64")]
-        unsafe { std::arch::asm!("", inout("x0") $x, options(nomem, nostack, preserves_flags)) };
-        #[cfg(target_arch = "x86_64")]
         unsafe { std::arch::asm!("", inout("rdi") $x, options(nomem, nostack, preserves_flags)) };
     };
 }

@@ -1,5 +1,5 @@
 # Writes the C functions that a source declares, one a line, in C's words: `uint64_t pk_fmod64(uint64_t x, uint64_t y)`.
-# -v from=face reads the face (crates/paskerotim/src/lib.rt), from=header the C header, from=rust the declarations of the Rust crate;
+# -v from=face reads the face (crates/paskerotim_c/src/lib.rt), from=header the C header, from=rust the declarations of the Rust crate;
 # from=inline the inline functions of the C header, which are its own and no face's.
 # A lent place is a pointer: `flags: &mut u32` is `uint32_t *flags`. A lent list of the face is a pointer and a length, named after it:
 # `xs: &[u64]` is `const uint64_t *xs, size_t xs_len`.

@@ -1,7 +1,7 @@
 //! Runs our operations and libm's on the same operands, in one process, and reports every difference.
 //!
-//! Started by tools/compare, which checks the options that a person gives. The emulator that runs x86-64 programs on Arm
-//! does not bear Rust's own start, so there is no Rust `main`.
+//! Started by tools/compare, which checks the options that a person gives. Its `main` is C's: a reader that closes the output
+//! ends it without a word, as it ends other programs.
 #![cfg_attr(not(test), no_main)]
 #![cfg_attr(test, allow(dead_code))]
 

@@ -124,13 +124,11 @@ fn chosen(all: &Sources, options: &Options) -> Result<Vec<usize>, String> {
     Ok(in_crates.into_iter().filter(wanted).collect())
 }
 
-// Programs, and what only they rest on; a crate with C functions is for others too.
+// Programs, and what only they rest on.
 fn of_the_command(all: &Sources) -> BTreeSet<&str> {
-    let has = |krate: &str, text: &str| {
-        let folder = format!("crates/{krate}/src/");
-        all.files.iter().any(|f| {
-            f.path.starts_with(&folder) && (f.path.ends_with(text) || f.text.contains(text))
-        })
+    let is_program = |krate: &str| {
+        let main = format!("crates/{krate}/src/main.rt");
+        all.files.iter().any(|f| f.path == main)
     };
     let mut found: BTreeSet<&str> = BTreeSet::new();
     loop {
@@ -142,7 +140,7 @@ fn of_the_command(all: &Sources) -> BTreeSet<&str> {
                 .filter(|(_, deps)| deps.contains(krate))
                 .peekable();
             let is_below = above.peek().is_some() && above.all(|(n, _)| found.contains(n.as_str()));
-            if has(krate, "/src/main.rt") || (is_below && !has(krate, "#[no_mangle]")) {
+            if is_program(krate) || is_below {
                 found.insert(krate);
             }
         }

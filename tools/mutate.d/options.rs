@@ -12,7 +12,6 @@ pub enum Amount {
 pub struct Options {
     pub root: PathBuf,
     pub work: PathBuf,
-    pub room: PathBuf,
     pub seed: u64,
     pub crates: Vec<String>,
     pub functions: Vec<String>,
@@ -55,7 +54,6 @@ fn standard() -> Result<Options, String> {
     Ok(Options {
         root: folder("MUTATE_ROOT")?,
         work: folder("MUTATE_WORK")?,
-        room: folder("MUTATE_ROOM")?,
         seed: 1,
         crates: Vec::new(),
         functions: Vec::new(),
@@ -69,7 +67,7 @@ fn standard() -> Result<Options, String> {
     })
 }
 
-// tools/mutate names the repository, a folder to work in, and one for tools/prove.
+// tools/mutate names the repository, and a folder to work in.
 fn folder(name: &str) -> Result<PathBuf, String> {
     std::env::var_os(name)
         .map(PathBuf::from)

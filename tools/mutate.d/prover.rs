@@ -4,7 +4,6 @@
 use crate::options::Options;
 use std::fs::{self, File};
 use std::io;
-use std::os::unix::fs::symlink;
 use std::os::unix::process::CommandExt;
 use std::path::{Path, PathBuf};
 use std::process::{Child, Command, Stdio};
@@ -12,41 +11,25 @@ use std::time::{Duration, Instant};
 
 pub struct Place {
     pub folder: PathBuf,
+    root: PathBuf,
     krate: String,
 }
 
-// A copy of the crate, with links to the others and to what is proved.
-pub fn place(root: &Path, folder: PathBuf, krate: &str, rests_on: &[String]) -> io::Result<Place> {
+// A copy of the crate.
+pub fn place(root: &Path, folder: PathBuf, krate: &str) -> io::Result<Place> {
     if folder.exists() {
         fs::remove_dir_all(&folder)?;
     }
-    fs::create_dir_all(folder.join("crates"))?;
-    fs::create_dir_all(folder.join("target/log"))?;
     fs::create_dir_all(folder.join("tmp"))?;
-    fs::write(
-        folder.join("crates.txt"),
-        format!("{krate}: {}\n", rests_on.join(" ")),
-    )?;
-    for part in ["rlib", "stamp"] {
-        symlink(
-            root.join("target").join(part),
-            folder.join("target").join(part),
-        )?;
-    }
-    for name in rests_on {
-        let there = root.join("crates").join(name);
-        if there.exists() {
-            symlink(there, folder.join("crates").join(name))?;
-        }
-    }
     for part in ["src", "specs", "proofs"] {
         let there = root.join("crates").join(krate).join(part);
         if there.exists() {
-            copy(&there, &folder.join("crates").join(krate).join(part))?;
+            copy(&there, &folder.join(part))?;
         }
     }
     Ok(Place {
         folder,
+        root: root.to_path_buf(),
         krate: krate.to_string(),
     })
 }
@@ -67,8 +50,8 @@ fn copy(from: &Path, to: &Path) -> io::Result<()> {
 
 impl Place {
     // What the prover keeps of the crate as it is.
-    pub fn kept(&self) -> PathBuf {
-        self.folder.join("target/inc").join(&self.krate)
+    fn kept(&self) -> PathBuf {
+        self.folder.join("kept")
     }
 
     pub fn takes_kept(&self, of: &Place) -> io::Result<()> {
@@ -85,34 +68,32 @@ impl Place {
     // Takes the function's own proof away, so that the prover looks for one. Says whether there was one.
     pub fn forgets_proof(&self, function: &str) -> io::Result<bool> {
         let parts: Vec<&str> = function.split("::").skip(1).collect();
-        let crates = self.folder.join("crates").join(&self.krate);
-        let folder = crates.join("proofs").join(parts.join("/"));
-        if !folder.join("Proof.antt").exists() {
-            return Ok(false);
-        }
-        for entry in fs::read_dir(&folder)? {
-            let path = entry?.path();
-            if path.is_file() {
-                fs::remove_file(path)?;
+        let folder = self.folder.join("proofs").join(parts.join("/"));
+        let mut found = false;
+        for file in ["Proof.antt", "Answers.antt"] {
+            if folder.join(file).exists() {
+                fs::remove_file(folder.join(file))?;
+                found = true;
             }
         }
-        Ok(true)
+        Ok(found)
     }
 
+    // A source, by its path below the repository's root.
     pub fn write(&self, path: &str, text: &str) -> io::Result<()> {
-        fs::write(self.folder.join(path), text)
+        let base = format!("crates/{}/", self.krate);
+        fs::write(self.folder.join(path.trim_start_matches(&base)), text)
     }
 
     // The exit status, or none where the time was up, and what was said.
     pub fn prove(&self, seconds: u64) -> io::Result<(Option<i32>, String)> {
+        fs::create_dir_all(self.kept())?;
         let log = self.folder.join("said");
         let out = File::create(&log)?;
-        let mut child = Command::new("rt")
-            .args(["dev", &self.krate])
+        let mut child = Command::new(self.root.join("tools/rattle"))
+            .args(["check", &self.krate, "--incremental", "kept"])
             .current_dir(&self.folder)
             .env("TMPDIR", self.folder.join("tmp"))
-            .env("RT_JOBS", "1")
-            .env("RT_CUT", "0")
             .env("LC_ALL", "C")
             .stdin(Stdio::null())
             .stderr(out.try_clone()?)
@@ -120,8 +101,7 @@ impl Place {
             .process_group(0)
             .spawn()?;
         let status = waited(&mut child, Duration::from_secs(seconds))?;
-        let said = String::from_utf8_lossy(&fs::read(&log)?)
-            .replace(&format!("{}/", self.folder.display()), "");
+        let said = String::from_utf8_lossy(&fs::read(&log)?).to_string();
         Ok((status, said))
     }
 }
@@ -144,26 +124,16 @@ fn waited(child: &mut Child, limit: Duration) -> io::Result<Option<i32>> {
     }
 }
 
-// Has tools/prove prove the crates as they are, and what they rest on. What was proved before is not told.
+// Has tools/prove prove the crates as they are, and what they rest on.
 pub fn prove_all(options: &Options, crates: &[&str]) -> Result<(), String> {
-    use io::{BufRead, BufReader};
-    let mut child = Command::new(options.root.join("tools/prove"))
+    let proved = Command::new(options.root.join("tools/prove"))
         .args(crates)
-        .env("RT_JOBS", options.jobs.to_string())
-        .env("TMPDIR", &options.room)
         .stdin(Stdio::null())
         .stdout(Stdio::null())
-        .stderr(Stdio::piped())
-        .spawn()
+        .status()
         .map_err(|e| format!("tools/prove: {e}"))?;
-    if let Some(said) = child.stderr.take() {
-        let lines = BufReader::new(said).lines().map_while(Result::ok);
-        lines
-            .filter(|l| !l.ends_with(" unchanged"))
-            .for_each(|l| eprintln!("{l}"));
+    if proved.success() {
+        return Ok(());
     }
-    match child.wait() {
-        Ok(status) if status.success() => Ok(()),
-        _ => Err("what is to be changed must be proved as it is".to_string()),
-    }
+    Err("what is to be changed must be proved as it is".to_string())
 }

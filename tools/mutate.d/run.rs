@@ -124,14 +124,6 @@ impl Run<'_> {
         Ok(())
     }
 
-    fn rests_on(&self, krate: &str) -> &[String] {
-        self.all
-            .crates
-            .iter()
-            .find(|c| c.0 == krate)
-            .map_or(&[], |c| &c.1)
-    }
-
     fn make(&self, krate: &str, base: &Base) -> Step<()> {
         let mut held = locked(&base.place);
         // what is kept saves less than half of a proof, and costs one
@@ -139,8 +131,7 @@ impl Run<'_> {
             return Ok(());
         }
         let folder = self.options.work.join("base").join(krate);
-        let made = place(&self.options.root, folder, krate, self.rests_on(krate))
-            .map_err(|e| e.to_string())?;
+        let made = place(&self.options.root, folder, krate).map_err(|e| e.to_string())?;
         let (status, said) = made
             .prove(self.options.seconds)
             .map_err(|e| e.to_string())?;
@@ -174,7 +165,7 @@ impl Run<'_> {
         let source = &self.all.files[function.file];
         let (text, krate) = (&source.text, &function.krate);
         let folder = self.options.work.join(format!("worker{worker}"));
-        let here = place(&self.options.root, folder, krate, self.rests_on(krate))?;
+        let here = place(&self.options.root, folder, krate)?;
         if let Some(base) = &*locked(&base.place) {
             here.takes_kept(base)?;
         }

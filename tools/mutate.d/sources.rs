@@ -75,7 +75,8 @@ fn crates(root: &Path) -> Result<Vec<(String, Vec<String>)>, String> {
     Ok(pairs
         .map(|(n, d)| {
             (
-                n.trim().to_string(),
+                // of a static library `NAME staticlib`
+                n.split_whitespace().next().unwrap_or("").to_string(),
                 d.split_whitespace().map(str::to_string).collect(),
             )
         })

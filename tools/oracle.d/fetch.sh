@@ -5,9 +5,8 @@ fetch() { # USE FOLDER: every package of the use, unpacked into the folder
     mkdir -p "$work/out"
     trap 'rm -rf "$work"' EXIT
     trap 'exit 2' HUP INT TERM
-    while read -r use for bytes sum path; do
+    while read -r use bytes sum path; do
         [ "$use" = "$1" ] || continue
-        [ "$for" = any ] || [ "$for" = "$machine" ] || continue
         say "fetching ${path##*/} ($(((bytes + 500000) / 1000000)) MB)"
         case $path in
         main:*) pool=debian/pool/main ;;
@@ -63,27 +62,4 @@ fetch_vectors() {
 runtime=usr/share/systemtap/runtime
 fetch_softfloat() {
     [ -d "$store/softfloat/$runtime" ] || fetch softfloat "$store/softfloat"
-}
-
-fetch_x86_rust() {
-    [ -x "$store/x86/usr/bin/rustc" ] || fetch x86 "$store/x86"
-    make_link_folder
-}
-
-# What x86-64 programs are linked with, and run with under the emulator: the kit's own C library.
-make_link_folder() {
-    find_kit
-    [ "$(readlink "$store/link/lib" 2>/dev/null)" != "$kit_tools/lib" ] || return 0
-    part=$store/link.$$
-    mkdir -p "$part/usr/lib"
-    ln -s "$kit_tools/lib" "$part/lib"
-    ln -s "$kit_tools/lib" "$part/lib64"
-    for file in "$kit_tools"/lib/*; do ln -s "$file" "$part/usr/lib/"; done
-    ln -s libm.so.6 "$part/usr/lib/libm.so"
-    ln -s libgcc_s.so.1 "$part/usr/lib/libgcc_s.so"
-    echo 'GROUP ( libc.so.6 libc_nonshared.a AS_NEEDED ( ld-linux-x86-64.so.2 ) )' >"$part/usr/lib/libc.so"
-    # Rust names these, and the C library has long held what was in them.
-    for name in dl rt pthread util; do "$kit_tools/bin/llvm-ar" rcs "$part/usr/lib/lib$name.a"; done
-    rm -rf "$store/link"
-    mv "$part" "$store/link"
 }

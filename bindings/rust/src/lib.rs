@@ -40,7 +40,7 @@
 //! # The archive
 //!
 //! The build links the static library that the variable `PASKEROTIM_ARCHIVE` names. Where it is not
-//! set, and this crate is in its repository, it links the one that `tools/oracle archive --native`
+//! set, and this crate is in its repository, it links the one that `tools/oracle archive`
 //! makes there, for which the Rattle toolchain is needed. Archive and crate must be of one version:
 //! a flag or a refusal that the crate does not know is a panic, and so is an attribute that the
 //! archive does not know; with the archive of its own version there are none.
