@@ -1,6 +1,5 @@
--- Each name of the table finds its own row, so no two operations share a name; the writers have the numbers that `Filled` names. Assumes nothing.
-use Rattle.std.proofs.Common.{◌≡◌, ℕ, zero, suc, ◌+◌, ◌<◌, Bool, true, ◌&&◌, T, eqb, List, [], ◌∷◌, length, get_or, refl, ◌∙◌, arith, eqb→eq}
-use Rattle.ieee_numeral_laws.specs.Numeral.{bytes_of}
+-- Each name of the table finds its own row, so no two operations share a name. Assumes nothing.
+use Rattle.std.proofs.Common.{◌≡◌, ℕ, zero, suc, ◌+◌, ◌<◌, Bool, true, ◌&&◌, T, eqb, List, [], ◌∷◌, length, get_or, ◌∙◌, arith, eqb→eq}
 use Rattle.cmd_operations.specs.Naming.{Named, same, row_in}
 use Rattle.cmd_operations.specs.Table.{operations, unnamed, rows_of, row_of}
 use Rattle.cmd_operations.proofs.Naming.{and_first, and_second}
@@ -22,7 +21,3 @@ found_at all (r ∷ rs) n (suc k) h less =
 pub every_name_found : (k : ℕ) → k < length (rows_of operations) → (row_of (get_or (rows_of operations) k unnamed.row).name).number ≡ k
 unfolding found_from row_of row_in same
 every_name_found k less = found_at (rows_of operations) (rows_of operations) 0 k tt less ∙ omega arith
-
-pub writers_found : ((row_of (bytes_of "write64")).number ≡ 35) × ((row_of (bytes_of "write32")).number ≡ 36)
-unfolding row_of row_in same
-writers_found = (refl, refl)

@@ -1,6 +1,12 @@
 -- Tables of names as text, and the row of a name in one. Assumes nothing.
 use Rattle.std.specs.Prelude.{ℕ, ◌+◌, Bool, true, false, cond, not, ◌&&◌, List, [], ◌∷◌, ◌++◌, length, ◌==◌}
+use Prim.Native.Char.{code}
+use Prim.Native.String.{String, [] as ε, ◌∷◌ as ◌▹◌}
 use Rattle.cmd_operations.specs.declared.table.Row.{Row}
+
+abbrev pub bytes_of : String → List ℕ
+bytes_of ε = []
+bytes_of (c ▹ s) = code c ∷ bytes_of s
 
 -- a name, and the kinds that go with it
 pub record Named : Type 0 where

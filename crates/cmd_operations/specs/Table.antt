@@ -1,5 +1,5 @@
 -- The operations by name: what each takes and gives, and the definition that answers it. Assumes nothing.
-use Rattle.std.specs.Prelude.{◌≡◌, ℕ, ◌%◌, List, [], ◌∷◌, ℤ, pos, slice_index, slice_index_or}
+use Rattle.std.specs.Prelude.{ℕ, ◌%◌, List, [], ◌∷◌, ℤ, pos, slice_index, slice_index_or}
 use Prim.Native.String.{String}
 use Rattle.ieee.specs.Format.{b64, b32}
 use Rattle.ieee.specs.Flags.{Flags, flag_word}
@@ -9,7 +9,7 @@ use Rattle.ieee.specs.Frexp.{frexp_of, frexp_exponent, ilogb_of}
 use Rattle.ieee.specs.Modf.{modf_of, modf_whole}
 use Rattle.ieee.specs.Nextafter.{nextafter_of}
 use Rattle.ieee.specs.Reduction.{reduce_of}
-use Rattle.ieee.specs.Refusal.{Answer, number_of, value_of}
+use Rattle.ieee.specs.Refusal.{number_of, value_of}
 use Rattle.ieee.specs.Remquo.{remquo_of, quotient_of}
 use Rattle.ieee.specs.Rounded.{Rounded, sqrt_rounded, fma_rounded, scalbn_rounded}
 use Rattle.ieee.specs.Scalbn.{scalbn_of, scalbn_flags}
@@ -18,10 +18,7 @@ use Rattle.ieee.specs.Whole.{trunc_of, trunc_flags, floor_of, floor_flags, ceil_
 use Rattle.cmd_operations.specs.declared.line.Answers.{Answers}
 use Rattle.cmd_operations.specs.declared.request.Operands.{Operands}
 use Rattle.cmd_operations.specs.declared.table.Row.{Row}
-use Rattle.ieee_numeral_laws.specs.Numeral.{bytes_of}
-use Rattle.ieee_numeral_laws.specs.Read.{read_of, read_rounded}
-use Rattle.ieee_numeral_laws.specs.Write.{Written, write_of}
-use Rattle.cmd_operations.specs.Naming.{Named, text_of, row_in}
+use Rattle.cmd_operations.specs.Naming.{bytes_of, Named, text_of, row_in}
 
 -- answers by their index, flags by their bits; a signed number after a word, which is 0 where it has none before it
 abbrev pub three : ℕ → ℕ → ℕ → Answers
@@ -42,32 +39,16 @@ rounded r = three r.number r.value (flag_word r.flags)
 abbrev pub signed : ℕ → ℤ → Answers
 signed x n = record { x = x; y = 0; z = 0; n = n }
 
--- the number of a refusal, or 0, and the value
-abbrev pub parted : Answer → Answers
-parted r = two (number_of r) (value_of r)
-
 -- an operand as a word of 32 bits
 abbrev pub low : ℕ → ℕ
 low x = x % 4294967296
 
--- answers go by the text of the request, by the room that it gives for a text, and by its operands
 pub record Operation : Type 0 where
   pub row : Named
-  pub answers : List ℕ → List ℕ → Operands → Answers
-
-abbrev pub named : String → String → Named
-named name kinds = record { name = bytes_of name; kinds = bytes_of kinds }
+  pub answers : Operands → Answers
 
 abbrev pub operation : String → String → (Operands → Answers) → Operation
-operation name kinds answers = record { row = named name kinds; answers = λ text room a. answers a }
-
--- one that takes a text
-abbrev pub reader : String → String → (List ℕ → Operands → Answer) → Operation
-reader name kinds answer = record { row = named name kinds; answers = λ text room a. parted (answer text a) }
-
--- one that gives a text: its number and its length; the text itself is left in the room (`Filled`)
-abbrev pub writer : String → String → (List ℕ → Operands → Written) → Operation
-writer name kinds result = record { row = named name kinds; answers = λ text room a. parted (result room a).answer }
+operation name kinds answers = record { row = record { name = bytes_of name; kinds = bytes_of kinds }; answers = answers }
 
 -- in the order of their numbers; crates/cmd_operations/src/table.rt explains the kinds
 abbrev pub operations : List Operation
@@ -81,8 +62,8 @@ operations =
     ∷ operation "fmod64" "WW- W--" (λ a. one (fmod_of b64 a.x a.y))
     ∷ operation "fmod32" "ww- w--" (λ a. one (fmod_of b32 (low a.x) (low a.y)))
     ∷ operation "remquo64" "WW- WN-" (λ a. signed (remquo_of b64 a.x a.y) (quotient_of b64 a.x a.y))
-    ∷ operation "reduce64" "PUP UP-" (λ a. parted (reduce_of 64 a.x (low a.y) a.z))
-    ∷ operation "reduce32" "pUp Up-" (λ a. parted (reduce_of 32 (low a.x) (low a.y) (low a.z)))
+    ∷ operation "reduce64" "WUW UW-" (λ a. two (number_of (reduce_of 64 a.x (low a.y) a.z)) (value_of (reduce_of 64 a.x (low a.y) a.z)))
+    ∷ operation "reduce32" "wUw Uw-" (λ a. two (number_of (reduce_of 32 (low a.x) (low a.y) (low a.z))) (value_of (reduce_of 32 (low a.x) (low a.y) (low a.z))))
     ∷ operation "sqrt64" "W-- WF-" (λ a. flagged (sqrt_of b64 a.x) (sqrt_flags b64 a.x))
     ∷ operation "sqrt32" "w-- wF-" (λ a. flagged (sqrt_of b32 (low a.x)) (sqrt_flags b32 (low a.x)))
     ∷ operation "fma64" "WWW WF-" (λ a. flagged (fma_of b64 a.x a.y a.z) (fma_flags b64 a.x a.y a.z))
@@ -103,12 +84,6 @@ operations =
     ∷ operation "fma32." "www UwF" (λ a. rounded (fma_rounded b32 (low a.attribute) (low a.x) (low a.y) (low a.z)))
     ∷ operation "scalbn64." "WN- UWF" (λ a. rounded (scalbn_rounded b64 (low a.attribute) a.x a.n))
     ∷ operation "scalbn32." "wN- UwF" (λ a. rounded (scalbn_rounded b32 (low a.attribute) (low a.x) a.n))
-    ∷ reader "read64" "T-- UW-" (λ text a. read_of b64 text)
-    ∷ reader "read32" "T-- Uw-" (λ text a. read_of b32 text)
-    ∷ reader "read64." "T-- UW-" (λ text a. read_rounded b64 (low a.attribute) text)
-    ∷ reader "read32." "T-- Uw-" (λ text a. read_rounded b32 (low a.attribute) text)
-    ∷ writer "write64" "WU- UUT" (λ room a. write_of b64 a.x room)
-    ∷ writer "write32" "wU- UUT" (λ room a. write_of b32 (low a.x) room)
     ∷ []
 
 abbrev pub rows_of : List Operation → List Named
@@ -126,21 +101,16 @@ kind_at index = slice_index (text_of (rows_of operations)) index
 abbrev pub unnamed : Operation
 unnamed = operation "" "" (λ a. two 0 0)
 
--- the answers of the operation of that number; for any other number, nothing
-unfoldable pub answers_of : ℕ → List ℕ → List ℕ → Operands → Answers
-answers_of number text room a = (slice_index_or operations number unnamed).answers text room a
-
--- what the two writers, by their numbers, leave in the room
-pub record Filled (number : ℕ) (a : Operands) (room room' : List ℕ) : Type 0 where
-  pub by_write64 : number ≡ 35 → room' ≡ (write_of b64 a.x room).output
-  pub by_write32 : number ≡ 36 → room' ≡ (write_of b32 (low a.x) room).output
+-- the answers of the operation of that number for the operands; for any other number, nothing
+unfoldable pub answers_of : ℕ → Operands → Answers
+answers_of number a = (slice_index_or operations number unnamed).answers a
 
 -- the attributes of rounding, by name and number as in docs/LINES.md
 abbrev pub attributes : List Named
-attributes = attribute "even" ∷ attribute "zero" ∷ attribute "down" ∷ attribute "up" ∷ attribute "away" ∷ []
+attributes = named "even" ∷ named "zero" ∷ named "down" ∷ named "up" ∷ named "away" ∷ []
   where
-    attribute : String → Named
-    attribute s = named s "--- ---"
+    named : String → Named
+    named s = record { name = bytes_of s; kinds = bytes_of "--- ---" }
 
 unfoldable pub attribute_of : List ℕ → ℕ
 attribute_of s = (row_in s attributes 0 0).number

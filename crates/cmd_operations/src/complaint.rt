@@ -33,11 +33,7 @@ pub fn with_start(l: Line, number: u64) -> Line {
 fn kind_text(kind: u8) -> u8 {
     match kind {
         b'W' => Text::Hex16 as u8,
-        b'P' => Text::Hex16 as u8,
         b'w' => Text::Hex8 as u8,
-        b'p' => Text::Hex8 as u8,
-        b'X' => Text::Numeral as u8,
-        b'x' => Text::Numeral as u8,
         b'N' => Text::Integer as u8,
         b'U' => Text::Natural as u8,
         b'A' => Text::Attribute as u8,

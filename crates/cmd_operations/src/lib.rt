@@ -1,7 +1,7 @@
 // The operations by name, requests read, and answers and complaints as lines to be written.
 //
-// To add an operation: its row in `TABLE` (table.rt); the same row, with the definition that answers it, in specs/Table.antt; its call in `answer_words`,
-// under an attribute `answer_under`, with a text `answer_of` (crates/pk/src/call.rt); and its line in the list below, which `./pk --help` prints.
+// To add an operation: its row in `TABLE` (table.rt); the same row, with the definition that answers it, in specs/Table.antt; its call in `answer_of` or,
+// under an attribute, `answer_under` (crates/pk/src/call.rt); and its line in the list below, which `./pk --help` prints.
 //
 //   floor64 X           floor64 c004000000000000                      the greatest whole number not above X
 //   floor32 X           floor32 bf000000
@@ -34,16 +34,10 @@
 //   fma32.A X Y Z       fma32.zero 40000000 40400000 3f800000
 //   scalbn64.A X N      scalbn64.away 3ff8000000000000 -1075          0 or refusal 10, and X times 2^N, rounded once under A
 //   scalbn32.A X N      scalbn32.1 3f800000 128
-//   read64 TEXT         read64 0x1.8p+1                               0 or a refusal, and the number that TEXT says, rounded once
-//   read32 TEXT         read32 -0x.8p3
-//   read64.A TEXT       read64.up 0x1.00000000000001p+0               0 or a refusal, and the number that TEXT says, rounded once under A
-//   read32.A TEXT       read32.zero 0x1p+128
-//   write64 X ROOM      write64 4008000000000000 24                   0 or refusal 8, the length of X's numeral, and the numeral where ROOM bytes hold it
-//   write32 X ROOM      write32 00000001 15
 #![tactic(auto)]
+
 pub mod complaint;
 pub mod line;
-pub mod operand;
 pub mod request;
 pub mod table;
 pub mod text;

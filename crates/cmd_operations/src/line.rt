@@ -1,10 +1,9 @@
 // A line to be written, as a value: its pieces, which one loop writes.
 use crate::table::{Row, answer_kind, write_names};
 use crate::text::{Text, write_text};
-use hex_write::write::{write_hex32, write_hex64};
 use text_lines::{write_signed, write_unsigned, write_word};
 
-// Up to sixteen pieces. A piece is a value, by the letter of its kind in the table; a star, for all names of that table; or a text of ours, by its number.
+// Up to sixteen pieces. A piece is a value, by the letter of its kind in the table; a star, for all names of that table; or a text.
 #[derive(Clone, Copy)]
 pub struct Line {
     pub codes: [u8; 16],
@@ -14,8 +13,7 @@ pub struct Line {
     pub n: i32,
 }
 
-// The answers of an operation: words and numbers by their index, and the signed number if there is one. A text stands elsewhere; the answer before it is
-// its length.
+// The answers of an operation: words and numbers by their index, and the signed number if there is one.
 #[derive(Clone, Copy)]
 pub struct Answers {
     pub x: u64,
@@ -90,47 +88,24 @@ fn with_flags(l: Line, word: u64) -> Line {
 fn with_answer(l: Line, kind: u8, value: u64) -> Line {
     match kind {
         b'-' => l,
-        b'T' => l,
         b'F' => with_flags(with_text(l, Text::Blank as u8), value),
         _ => with_piece(with_text(l, Text::Blank as u8), kind, value),
     }
 }
 
-// The answers of an operation, in the kinds of its row, but for a text.
-pub fn with_answers(mut l: Line, row: Row, a: Answers, is_hex: bool) -> Line {
+// The answers of an operation, in the kinds of its row.
+pub fn with_answers(mut l: Line, row: Row, a: Answers) -> Line {
     l.n = a.n;
     let arrow = with_text(l, Text::Arrow as u8);
-    let one = with_answer(arrow, answer_kind(row, 0, is_hex), a.x);
-    let two = with_answer(one, answer_kind(row, 1, is_hex), a.y);
-    with_answer(two, answer_kind(row, 2, is_hex), a.z)
-}
-
-// A pattern of 64 bits as a numeral.
-fn write_numeral64(out: &mut [u8], at: usize, x: u64) -> usize {
-    if at > out.len() {
-        return at;
-    }
-    let written = write_hex64(x, &mut out[at..]);
-    std::num::wrapping_add_usize(at, written.length as usize)
-}
-
-// A pattern of 32 bits as a numeral.
-fn write_numeral32(out: &mut [u8], at: usize, x: u64) -> usize {
-    if at > out.len() {
-        return at;
-    }
-    let written = write_hex32((x % 4294967296) as u32, &mut out[at..]);
-    std::num::wrapping_add_usize(at, written.length as usize)
+    let one = with_answer(arrow, answer_kind(row, 0), a.x);
+    let two = with_answer(one, answer_kind(row, 1), a.y);
+    with_answer(two, answer_kind(row, 2), a.z)
 }
 
 fn write_piece(out: &mut [u8], at: usize, code: u8, value: u64, n: i32) -> usize {
     match code {
         b'W' => write_word(out, at, value, 16),
-        b'P' => write_word(out, at, value, 16),
         b'w' => write_word(out, at, value, 8),
-        b'p' => write_word(out, at, value, 8),
-        b'X' => write_numeral64(out, at, value),
-        b'x' => write_numeral32(out, at, value),
         b'U' => write_unsigned(out, at, value),
         b'N' => write_signed(out, at, n),
         b'*' => write_names(out, at),

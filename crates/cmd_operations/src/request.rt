@@ -1,13 +1,14 @@
 // Reads a request: an operation's name, then its operands.
 ghost use Rattle.std.specs.Prelude.{◌≡◌, ◌+◌, min};
-ghost use Rattle.cmd_operations.specs.Request.{name_of, text_in};
+ghost use Rattle.cmd_operations.specs.Request.{name_of};
 ghost use Rattle.cmd_operations.specs.Table.{row_of};
 
 use crate::complaint::{Complaint, FINE, complaint_of};
-use crate::operand::{Taken, read_attribute, read_operand};
-use crate::table::{Row, is_named, operand_kind, row_of, takes_text};
+use crate::table::{Row, attribute_of, is_named, operand_kind, row_of};
 use crate::text::Text;
-use text_lines::{find, has_blank_too_many, part};
+use text_lines::{
+    Fault, Field, Signed, find, has_blank_too_many, part, read_signed, read_unsigned, read_word,
+};
 
 // The operands of a request: words, numbers and the length of a text by their index; the signed number and the attribute, if any.
 #[derive(Clone, Copy)]
@@ -25,6 +26,79 @@ pub struct Request {
     pub row: Row,
     pub operands: Operands,
     pub complaint: Complaint,
+}
+
+// A field read: its value or signed number, or its fault.
+#[derive(Clone, Copy)]
+struct Taken {
+    value: u64,
+    n: i32,
+    fault: u8,
+}
+
+fn with_value(value: u64, n: i32) -> Taken {
+    Taken {
+        value: value,
+        n: n,
+        fault: FINE,
+    }
+}
+
+fn with_fault(fault: Fault) -> Taken {
+    let text = match fault {
+        Fault::WrongLength => Text::Has as u8,
+        Fault::WrongDigit => Text::WrongDigit as u8,
+        Fault::NoDigit => Text::NoDigits as u8,
+        Fault::LeadingZero => Text::LeadingZero as u8,
+        Fault::MinusZero => Text::MinusZero as u8,
+        Fault::OutOfRange => Text::OutOfRange as u8,
+    };
+    Taken {
+        value: 0,
+        n: 0,
+        fault: text,
+    }
+}
+
+fn from_field(f: Field) -> Taken {
+    match f {
+        Field::Value(v) => with_value(v, 0),
+        Field::Not(e) => with_fault(e),
+    }
+}
+
+fn from_signed(f: Signed) -> Taken {
+    match f {
+        Signed::Integer(m) => with_value(0, m),
+        Signed::NoInteger(e) => with_fault(e),
+    }
+}
+
+// A name or a number. What has no digits, or other ones, was meant for a name.
+fn read_attribute(f: &[u8]) -> Taken {
+    let number = attribute_of(f);
+    if number < 5 {
+        return with_value(number as u64, 0);
+    }
+    let mut t = from_field(read_unsigned(f));
+    if t.fault == Text::NoDigits as u8 {
+        t.fault = Text::Empty as u8;
+    }
+    if t.fault == Text::WrongDigit as u8 {
+        t.fault = Text::NotKnown as u8;
+    }
+    t
+}
+
+// A text may be anything; its length is its value.
+fn read_field(f: &[u8], kind: u8) -> Taken {
+    match kind {
+        b'W' => from_field(read_word(f, 16)),
+        b'w' => from_field(read_word(f, 8)),
+        b'N' => from_signed(read_signed(f)),
+        b'U' => from_field(read_unsigned(f)),
+        _ => with_value(f.len() as u64, 0),
+    }
 }
 
 fn new_request(row: Row, what: u8) -> Request
@@ -91,14 +165,14 @@ fn end_of(s: &[u8], begin: usize, kind: u8) -> usize {
 }
 
 // Reads the operands, each after a blank, from the end of the name.
-fn read_operands(s: &[u8], first: Request, from: usize, is_hex: bool) -> Request
+fn read_operands(s: &[u8], first: Request, from: usize) -> Request
     ensures { result.row ≡ first.row }
 {
     let mut r = first;
     let mut at = from;
     let mut index = 0;
     while index < 4 {
-        let kind = operand_kind(r.row, index, is_hex);
+        let kind = operand_kind(r.row, index);
         if at >= s.len() {
             if kind == b'-' {
                 return r;
@@ -111,7 +185,7 @@ fn read_operands(s: &[u8], first: Request, from: usize, is_hex: bool) -> Request
         let begin = at + 1;
         at = end_of(s, begin, kind);
         let f = part(s, begin, at);
-        r = with_operand(r, read_operand(f, kind), kind, index, f.len());
+        r = with_operand(r, read_field(f, kind), kind, index, f.len());
         if r.complaint.what != FINE {
             return r;
         }
@@ -164,25 +238,14 @@ fn flaw_of(s: &[u8], row: Row) -> u8 {
 
 // The end of the fields: a text is not a field, and runs to the end.
 fn fields_end(s: &[u8], row: Row, end: usize) -> usize {
-    if takes_text(row) {
+    if operand_kind(row, 0) == b'T' {
         return end;
     }
     s.len()
 }
 
-// The text of a request: all after the first blank.
-pub fn text_of(s: &[u8]) -> &[u8]
-    ensures { result.now ≡ text_in s.now }
-{
-    let blank = find(s, 0, b' ');
-    if blank < s.len() {
-        return part(s, blank + 1, s.len());
-    }
-    part(s, 1, 0)
-}
-
-// Reads the request in s, whose patterns are numerals where `is_hex`.
-pub fn read_request(s: &[u8], is_hex: bool) -> Request
+// Reads the request in s.
+pub fn read_request(s: &[u8]) -> Request
     ensures { result.row ≡ row_of (name_of s.now) }
 {
     let end = find(s, 0, b' ');
@@ -200,5 +263,5 @@ pub fn read_request(s: &[u8], is_hex: bool) -> Request
     if r.complaint.what != FINE {
         return r;
     }
-    read_operands(s, r, end, is_hex)
+    read_operands(s, r, end)
 }

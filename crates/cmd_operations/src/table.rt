@@ -5,14 +5,12 @@ ghost use Rattle.cmd_operations.specs.Table.{row_of, kind_at, attribute_of};
 
 use text_lines::{find, part, write_bytes};
 
-const SIZE: usize = 593;
+const SIZE: usize = 499;
 
 // A row for each operation: its name, of any length, the kinds of up to three operands and of up to three answers. A name that ends in a dot is followed
 // by an attribute. An operation's number is that of its row, from 0 on.
-//     W  a pattern of 64 bits       w  a pattern of 32 bits       N  a signed number       F  flags
-//     P  a plain word of 64 bits    p  a plain word of 32 bits    U  an unsigned number    -  nothing
-//     T  a text: the only operand, or the last answer, whose length stands before it
-// Under --hex a pattern is a numeral, of the kind X for W and x for w, which no row has.
+//     W  a word of 64 bits    N  a signed number       T  a text, as the only operand
+//     w  a word of 32 bits    U  an unsigned number    F  flags    -  nothing
 const TABLE: [u8; SIZE] = *b"floor64 W-- WF-
 floor32 w-- wF-
 trunc64 W-- WF-
@@ -22,8 +20,8 @@ scalbn32 wN- wF-
 fmod64 WW- W--
 fmod32 ww- w--
 remquo64 WW- WN-
-reduce64 PUP UP-
-reduce32 pUp Up-
+reduce64 WUW UW-
+reduce32 wUw Uw-
 sqrt64 W-- WF-
 sqrt32 w-- wF-
 fma64 WWW WF-
@@ -44,12 +42,6 @@ fma64. WWW UWF
 fma32. www UwF
 scalbn64. WN- UWF
 scalbn32. wN- UwF
-read64 T-- UW-
-read32 T-- Uw-
-read64. T-- UW-
-read32. T-- Uw-
-write64 WU- UUT
-write32 wU- UUT
 ";
 
 // The attributes of rounding by name, in the order of their numbers.
@@ -114,44 +106,23 @@ pub fn is_named(row: Row) -> bool {
     row.kinds < SIZE
 }
 
-// A kind as it is written under --hex, or without it.
-fn written_kind(kind: u8, is_hex: bool) -> u8 {
-    if !is_hex {
-        return kind;
-    }
-    match kind {
-        b'W' => b'X',
-        b'w' => b'x',
-        _ => kind,
-    }
-}
-
 // The kind of the operand at an index, from 0 on.
-pub fn operand_kind(row: Row, index: usize, is_hex: bool) -> u8 {
+pub fn operand_kind(row: Row, index: usize) -> u8 {
     if index < 3 {
-        let at = std::num::wrapping_add_usize(row.kinds, index);
-        return written_kind(kind_at(at), is_hex);
+        return kind_at(std::num::wrapping_add_usize(row.kinds, index));
     }
     b'-'
 }
 
 // The kind of the answer at an index, from 0 on.
-pub fn answer_kind(row: Row, index: usize, is_hex: bool) -> u8 {
+pub fn answer_kind(row: Row, index: usize) -> u8 {
     if index < 3 {
-        let at = std::num::wrapping_add_usize(row.kinds, std::num::wrapping_add_usize(index, 4));
-        return written_kind(kind_at(at), is_hex);
+        return kind_at(std::num::wrapping_add_usize(
+            row.kinds,
+            std::num::wrapping_add_usize(index, 4),
+        ));
     }
     b'-'
-}
-
-// Whether the operation takes a text.
-pub fn takes_text(row: Row) -> bool {
-    operand_kind(row, 0, false) == b'T'
-}
-
-// Whether the operation gives a text.
-pub fn gives_text(row: Row) -> bool {
-    answer_kind(row, 2, false) == b'T'
 }
 
 // The byte of the table at an offset.

@@ -38,9 +38,6 @@ pub enum Text {
     NoAttribute,
     FollowsDot,
     AnyText,
-    NoNumeral,
-    IsNumeral,
-    Numeral,
     TooLong,
     CarriageReturn,
     BlankTooMany,
@@ -66,7 +63,7 @@ pub enum Text {
 }
 
 // A text ends before a bar. The search runs from the start, so the most frequent texts come first.
-const TEXTS: [u8; 1342] = *b" ->|
+const TEXTS: [u8; 1234] = *b" ->|
  |
 OK|
 INEXACT|
@@ -100,10 +97,7 @@ even, zero, down, up, away or a decimal number from 0 to 4294967295|
 the operation takes no attribute; expected its name alone|
  (an attribute follows a dot)|
 a text|
-is no numeral|
-is a numeral, which --hex takes|
-one such as 0x1.8p+1, inf or nan, of at most 64 characters|
-the line is too long; expected a request of at most 252 characters|
+the line is too long; expected a request of at most 124 characters|
 a carriage return stands in the request; expected a line feed alone|
 a blank too many; expected single blanks between fields|
 is missing|

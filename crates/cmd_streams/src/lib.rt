@@ -1,16 +1,23 @@
 // Standard input and output of the programs, messages where they fail, and the verdict at the end.
 #![tactic(auto)]
-use libc::{STDERR_FILENO, STDIN_FILENO, STDOUT_FILENO};
+
+use std::fs::OpenOptions;
+use std::io::{Read, Write};
+use std::rt::{Files, Stderr, Stdin, Stdout};
+use std::{fs, io};
 use text_lines::Field;
 
-// The descriptor that a program's order is read from: a list's operation by its number, or for requests 1 where patterns are numerals.
-const ORDER: i32 = 5;
+// The descriptor that the operation's number is read from. It is opened by its name, and where it is closed there is no file of that name.
+const NUMBER: &str = "/dev/fd/5";
 
 // The descriptor that the number of bad lines is written to. Without that number the run did not finish.
-const VERDICT: i32 = 3;
+const VERDICT: &str = "/dev/fd/3";
 
 #[derive(Clone, Copy)]
 pub struct Streams {
+    stdin: Stdin,
+    stdout: Stdout,
+    stderr: Stderr,
     // The bytes of output not yet written.
     pub used: usize,
     // Whether there is more to read.
@@ -32,8 +39,11 @@ pub enum Asked {
     Nothing,
 }
 
-pub fn open_streams() -> Streams {
+pub fn open_streams(stdin: Stdin, stdout: Stdout, stderr: Stderr) -> Streams {
     Streams {
+        stdin,
+        stdout,
+        stderr,
         used: 0,
         is_open: true,
         is_broken: false,
@@ -46,6 +56,11 @@ pub fn with_failure(mut s: Streams) -> Streams {
     s
 }
 
+// Writes a message to standard error. One that cannot be written is lost: there is nowhere to say so.
+pub fn tell(mut s: Streams, message: &[u8]) {
+    let _ = s.stderr.write_all(message);
+}
+
 // Writes out the pending output.
 pub fn flush(mut s: Streams, out: &[u8; 65536]) -> Streams {
     let used = s.used;
@@ -53,12 +68,13 @@ pub fn flush(mut s: Streams, out: &[u8; 65536]) -> Streams {
     if s.is_broken {
         return s;
     }
-    let is_written = io::write_all(STDOUT_FILENO, text_lines::part(out, 0, used));
-    if is_written {
-        return s;
+    match s.stdout.write_all(text_lines::part(out, 0, used)) {
+        Ok(()) => s,
+        Err(_) => {
+            tell(s, b"pk: cannot write standard output\n");
+            with_failure(s)
+        }
     }
-    io::write_all(STDERR_FILENO, b"pk: cannot write standard output\n");
-    with_failure(s)
 }
 
 // Makes room for `more` bytes of output.
@@ -80,38 +96,48 @@ pub fn read_once(mut s: Streams, input: &mut [u8; 65536]) -> Taken {
             count: 0,
         };
     }
-    let got = libc::read(STDIN_FILENO, input);
-    if got < 0 {
-        io::write_all(STDERR_FILENO, b"pk: cannot read standard input\n");
-        return Taken {
-            streams: with_failure(s),
-            count: 0,
-        };
-    }
-    if got == 0 {
-        s.is_open = false;
-    }
-    Taken {
-        streams: s,
-        count: io::count(got, input),
+    match s.stdin.read(input) {
+        Ok(count) => {
+            s.is_open = count > 0;
+            Taken { streams: s, count }
+        }
+        Err(_) => {
+            tell(s, b"pk: cannot read standard input\n");
+            Taken {
+                streams: with_failure(s),
+                count: 0,
+            }
+        }
     }
 }
 
 // Writes out the rest, and then, unless anything failed, the number of bad lines.
-pub fn close(s: Streams, out: &[u8; 65536], bad: u64) {
+pub fn close(rt: &impl Files, s: Streams, out: &[u8; 65536], bad: u64) {
     let t = flush(s, out);
-    if t.is_broken {
-        return;
+    if !t.is_broken {
+        // Who waits for the number sees that it did not come.
+        let _ = write_verdict(rt, bad);
     }
-    io::print_decimal(VERDICT, bad);
-    io::write_all(VERDICT, b"\n");
+}
+
+// Appends, so that a file there keeps what it has.
+fn write_verdict(rt: &impl Files, bad: u64) -> io::Result<()> {
+    let mut file = OpenOptions::new().append(true).open(rt, VERDICT)?;
+    let mut text = [0u8; 24];
+    let end = text_lines::write_unsigned(&mut text, 0, bad);
+    let next = text_lines::write_bytes(&mut text, end, b"\n");
+    file.write_all(text_lines::part(&text, 0, next))
+}
+
+fn read_some(rt: &impl Files, text: &mut [u8; 16]) -> io::Result<usize> {
+    let mut file = fs::open(rt, NUMBER)?;
+    file.read(text)
 }
 
 // Reads a number from the descriptor of the order: decimal digits, up to a line feed or the end.
-fn read_order() -> Asked {
+fn read_order(rt: &impl Files) -> Asked {
     let mut text = [0u8; 16];
-    let got = libc::read(ORDER, &mut text);
-    let n = io::count(got, &text);
+    let n = read_some(rt, &mut text).unwrap_or(0);
     let end = text_lines::find(text_lines::part(&text, 0, n), 0, b'\n');
     match text_lines::read_unsigned(text_lines::part(&text, 0, end)) {
         Field::Value(v) => Asked::Number((v % 4294967296) as u32),
@@ -120,23 +146,13 @@ fn read_order() -> Asked {
 }
 
 // Reads the operation's number.
-pub fn read_number() -> Asked {
-    match read_order() {
-        Asked::Number(n) => Asked::Number(n),
-        Asked::Nothing => {
-            io::write_all(
-                STDERR_FILENO,
-                b"pk: descriptor 5 has no operation's number; expected a decimal number from 0 to 4294967295\n",
-            );
-            Asked::Nothing
-        }
+pub fn read_number(rt: &impl Files, s: Streams) -> Asked {
+    let asked = read_order(rt);
+    if let Asked::Nothing = asked {
+        tell(
+            s,
+            b"pk: descriptor 5 has no operation's number; expected a decimal number from 0 to 4294967295\n",
+        );
     }
-}
-
-// Reads whether patterns are numerals. Without an order they are not.
-pub fn read_is_hex() -> bool {
-    match read_order() {
-        Asked::Number(n) => n == 1,
-        Asked::Nothing => false,
-    }
+    asked
 }

@@ -1,6 +1,6 @@
 // The calls: each operation of the library by its number in the table.
-ghost use Rattle.std.specs.Prelude.{◌≡◌, ℕ, ◌<◌, ◌≤◌, List};
-ghost use Rattle.cmd_operations.specs.Table.{one, two, three, flagged, rounded, signed, answers_of, Filled};
+ghost use Rattle.std.specs.Prelude.{◌≡◌, ◌≤◌};
+ghost use Rattle.cmd_operations.specs.Table.{one, two, three, flagged, rounded, signed, answers_of};
 ghost use Rattle.ieee.specs.Flags.{flag_word};
 ghost use Rattle.flagged.specs.Record.{record_of, rounded_of64, rounded_of32};
 
@@ -8,32 +8,10 @@ use cmd_operations::line::Answers;
 use cmd_operations::request::Operands;
 use fmt_fields::env::weigh;
 
-// The operations by their numbers. Those on words come first, those on texts last. A 32-bit word was read from eight digits, or is a pattern of 32 bits, and
-// an unsigned number was read within its range, so the casts lose nothing.
-pub fn answer_of(number: usize, text: &[u8], room: &mut [u8], a: Operands) -> Answers
-    ensures value { result ≡ answers_of number text.now room.old a }
-    ensures filled { Filled number a room.old room.new }
-{
-    if number < 31 {
-        return answer_words(number, a);
-    }
-    let x = (a.x % 4294967296) as u32;
-    let attribute = (a.attribute % 4294967296) as u32;
-    match number {
-        31 => read64(paskerotim::read_hex64(text)),
-        32 => read32(paskerotim::read_hex32(text)),
-        33 => read64(paskerotim::read_hex64_rounded(attribute, text)),
-        34 => read32(paskerotim::read_hex32_rounded(attribute, text)),
-        35 => written(paskerotim::write_hex64(a.x, room)),
-        36 => written(paskerotim::write_hex32(x, room)),
-        _ => two_answers(0, 0),
-    }
-}
-
-// The operations on words; those under an attribute come last.
-fn answer_words(number: usize, a: Operands) -> Answers
-    requires { number < 31 }
-    ensures { (text room : List ℕ) → result ≡ answers_of number text room a }
+// The operations by their numbers; those under an attribute come last. A 32-bit word was read from eight digits, and an unsigned number within its
+// range, so the casts lose nothing.
+pub fn answer_of(number: usize, a: Operands) -> Answers
+    ensures { result ≡ answers_of number a }
 {
     let x = (a.x % 4294967296) as u32;
     let y = (a.y % 4294967296) as u32;
@@ -70,8 +48,8 @@ fn answer_words(number: usize, a: Operands) -> Answers
 
 // The operations under an attribute, by their numbers.
 fn answer_under(number: usize, a: Operands) -> Answers
-    requires { (25 ≤ number) × (number < 31) }
-    ensures { (text room : List ℕ) → result ≡ answers_of number text room a }
+    requires { 25 ≤ number }
+    ensures { result ≡ answers_of number a }
 {
     let x = (a.x % 4294967296) as u32;
     let y = (a.y % 4294967296) as u32;
@@ -83,7 +61,8 @@ fn answer_under(number: usize, a: Operands) -> Answers
         27 => rounded64(paskerotim::fma64_rounded(attribute, a.x, a.y, a.z)),
         28 => rounded32(paskerotim::fma32_rounded(attribute, x, y, z)),
         29 => rounded64(paskerotim::scalbn64_rounded(attribute, a.x, a.n)),
-        _ => rounded32(paskerotim::scalbn32_rounded(attribute, x, a.n)),
+        30 => rounded32(paskerotim::scalbn32_rounded(attribute, x, a.n)),
+        _ => two_answers(0, 0),
     }
 }
 
@@ -222,22 +201,4 @@ fn refusal32(r: paskerotim::Reduced32) -> Answers
     ensures { result ≡ two r.refusal r.value }
 {
     two_answers(r.refusal as u64, r.value as u64)
-}
-
-fn read64(r: paskerotim::ReadHex64) -> Answers
-    ensures { result ≡ two r.refusal r.value }
-{
-    two_answers(r.refusal as u64, r.value)
-}
-
-fn read32(r: paskerotim::ReadHex32) -> Answers
-    ensures { result ≡ two r.refusal r.value }
-{
-    two_answers(r.refusal as u64, r.value as u64)
-}
-
-fn written(r: paskerotim::WrittenHex) -> Answers
-    ensures { result ≡ two r.refusal r.length }
-{
-    two_answers(r.refusal as u64, r.length as u64)
 }

@@ -1,5 +1,6 @@
 // Answers the requests on standard input, one line for each, and then writes the number of bad lines.
 #![tactic(auto)]
+
 mod call;
 mod reply;
 
@@ -18,19 +19,16 @@ struct State {
     // The lines that have ended, and how many of them were bad.
     ended: u64,
     bad: u64,
-    // Whether patterns are numerals.
-    is_hex: bool,
     streams: Streams,
 }
 
-fn new_state(is_hex: bool) -> State {
+fn new_state(streams: Streams) -> State {
     State {
         kept: text_lines::nothing_kept(),
         is_comment: false,
         ended: 0,
         bad: 0,
-        is_hex: is_hex,
-        streams: cmd_streams::open_streams(),
+        streams,
     }
 }
 
@@ -44,7 +42,7 @@ fn pass_on(mut s: State, out: &mut [u8; 65536], bytes: &[u8]) -> State {
 }
 
 // Answers the current line, unless it is empty or a comment, and ends it.
-fn end_line(mut s: State, line: &[u8; 256], out: &mut [u8; 65536]) -> State {
+fn end_line(mut s: State, line: &[u8; 128], out: &mut [u8; 65536]) -> State {
     let streams = s.streams;
     let mut t = cmd_streams::reserve(streams, out, ROOM);
     let kept = s.kept;
@@ -58,7 +56,6 @@ fn end_line(mut s: State, line: &[u8; 256], out: &mut [u8; 65536]) -> State {
             text_lines::part(line, 0, held),
             kept.is_long,
             number,
-            s.is_hex,
         );
         t.used = reply.end;
         if reply.is_bad {
@@ -86,7 +83,7 @@ fn starts_comment(s: State, bytes: &[u8]) -> bool {
 }
 
 // Takes a part of the current line.
-fn take_part(mut s: State, line: &mut [u8; 256], out: &mut [u8; 65536], bytes: &[u8]) -> State {
+fn take_part(mut s: State, line: &mut [u8; 128], out: &mut [u8; 65536], bytes: &[u8]) -> State {
     if starts_comment(s, bytes) {
         s.is_comment = true;
     }
@@ -99,7 +96,7 @@ fn take_part(mut s: State, line: &mut [u8; 256], out: &mut [u8; 65536], bytes: &
     s
 }
 
-fn take_lines(s: State, line: &mut [u8; 256], out: &mut [u8; 65536], bytes: &[u8]) -> State {
+fn take_lines(s: State, line: &mut [u8; 128], out: &mut [u8; 65536], bytes: &[u8]) -> State {
     let mut t = s;
     let mut i = 0;
     while i < bytes.len() {
@@ -118,7 +115,7 @@ fn take_lines(s: State, line: &mut [u8; 256], out: &mut [u8; 65536], bytes: &[u8
 // Reads once, and answers the lines that are complete.
 fn answer_read(
     mut s: State,
-    line: &mut [u8; 256],
+    line: &mut [u8; 128],
     out: &mut [u8; 65536],
     input: &mut [u8; 65536],
 ) -> State {
@@ -133,21 +130,19 @@ fn answer_read(
     t
 }
 
-// A proved loop must end, and the input need not. So the loop counts its turns down, from a number that no run exhausts.
+// A proved loop must end, and the input need not. So the loop counts its turns, up to a number that no run reaches.
 fn run(
-    line: &mut [u8; 256],
+    first: State,
+    line: &mut [u8; 128],
     out: &mut [u8; 65536],
     input: &mut [u8; 65536],
-    is_hex: bool,
 ) -> State {
-    let mut s = new_state(is_hex);
-    let mut turns = u64::MAX;
-    while turns > 0 {
+    let mut s = first;
+    for _ in 0..u64::MAX {
         if !s.streams.is_open {
             return s;
         }
         s = answer_read(s, line, out, input);
-        turns -= 1;
     }
     with_failure(s)
 }
@@ -160,7 +155,7 @@ fn with_failure(mut s: State) -> State {
 }
 
 // Ends a last line that has no line feed.
-fn finish(s: State, line: &[u8; 256], out: &mut [u8; 65536]) -> State {
+fn finish(s: State, line: &[u8; 128], out: &mut [u8; 65536]) -> State {
     let kept = s.kept;
     if s.is_comment {
         return end_line(s, line, out);
@@ -171,12 +166,12 @@ fn finish(s: State, line: &[u8; 256], out: &mut [u8; 65536]) -> State {
     s
 }
 
-fn main() {
-    let mut line = [0u8; 256];
-    let mut out = io::large_buffer();
-    let mut input = io::large_buffer();
-    let is_hex = cmd_streams::read_is_hex();
-    let s = run(&mut line, &mut out, &mut input, is_hex);
+fn main(rt: HostRuntime) {
+    let mut line = [0u8; 128];
+    let mut out = [0u8; 65536];
+    let mut input = [0u8; 65536];
+    let streams = cmd_streams::open_streams(rt.stdin(), rt.stdout(), rt.stderr());
+    let s = run(new_state(streams), &mut line, &mut out, &mut input);
     let t = finish(s, &line, &mut out);
-    cmd_streams::close(t.streams, &out, t.bad);
+    cmd_streams::close(&rt, t.streams, &out, t.bad);
 }

@@ -5,6 +5,7 @@
 // the piece, with a mark beside it. The operation's number is read from descriptor 5 once there is something to answer, and passed on
 // unchecked: the list call judges it.
 #![tactic(auto)]
+
 ghost use Rattle.std.specs.Prelude.{◌≡◌, ◌<◌, ◌≤◌};
 
 mod pieces;
@@ -62,7 +63,7 @@ fn count_lines(mut s: State, bad: u64) -> State
     s.bad = std::num::wrapping_add_u64(s.bad, bad);
     s.filled = 0;
     if answered / STRETCH > before / STRETCH {
-        pieces::tell_progress(answered, s.bad);
+        pieces::tell_progress(s.streams, answered, s.bad);
     }
     s
 }
@@ -97,7 +98,7 @@ fn end_piece(
 }
 
 // Keeps a part of the current line.
-fn keep(mut s: State, line: &mut [u8; 256], bytes: &[u8]) -> State
+fn keep(mut s: State, line: &mut [u8; 128], bytes: &[u8]) -> State
     ensures { result.filled ≡ s.filled }
 {
     let kept = s.kept;
@@ -111,7 +112,7 @@ fn keep(mut s: State, line: &mut [u8; 256], bytes: &[u8]) -> State
 fn end_line(
     mut s: State,
     op: u32,
-    line: &[u8; 256],
+    line: &[u8; 128],
     xs: &mut [u64; 8192],
     marks: &mut [u64; 8192],
     out: &mut [u8; 65536],
@@ -137,7 +138,7 @@ fn end_line(
 fn take_lines(
     s: State,
     op: u32,
-    line: &mut [u8; 256],
+    line: &mut [u8; 128],
     xs: &mut [u64; 8192],
     marks: &mut [u64; 8192],
     out: &mut [u8; 65536],
@@ -177,7 +178,7 @@ fn read_on(mut s: State, out: &[u8; 65536], input: &mut [u8; 65536]) -> State
 fn answer_read(
     s: State,
     op: u32,
-    line: &mut [u8; 256],
+    line: &mut [u8; 128],
     xs: &mut [u64; 8192],
     marks: &mut [u64; 8192],
     out: &mut [u8; 65536],
@@ -208,11 +209,11 @@ fn with_failure(mut s: State) -> State
     s
 }
 
-// A proved loop must end, and the input need not. So the loop counts its turns down, from a number that no run exhausts.
+// A proved loop must end, and the input need not. So the loop counts its turns, up to a number that no run reaches.
 fn run(
     first: State,
     op: u32,
-    line: &mut [u8; 256],
+    line: &mut [u8; 128],
     xs: &mut [u64; 8192],
     marks: &mut [u64; 8192],
     out: &mut [u8; 65536],
@@ -222,13 +223,11 @@ fn run(
     ensures { result.filled < 8192 }
 {
     let mut s = first;
-    let mut turns = u64::MAX;
-    while turns > 0 {
+    for _ in 0..u64::MAX {
         if s.count == 0 {
             return s;
         }
         s = answer_read(s, op, line, xs, marks, out, input);
-        turns -= 1;
     }
     with_failure(s)
 }
@@ -237,7 +236,7 @@ fn run(
 fn finish(
     s: State,
     op: u32,
-    line: &[u8; 256],
+    line: &[u8; 128],
     xs: &mut [u64; 8192],
     marks: &mut [u64; 8192],
     out: &mut [u8; 65536],
@@ -251,18 +250,19 @@ fn finish(
     end_piece(t, op, xs, marks, out)
 }
 
-fn main() {
-    let mut line = [0u8; 256];
+fn main(rt: HostRuntime) {
+    let mut line = [0u8; 128];
     let mut xs = [0u64; 8192];
     let mut marks = [0u64; 8192];
-    let mut out = io::large_buffer();
-    let mut input = io::large_buffer();
-    let first = cmd_streams::read_once(cmd_streams::open_streams(), &mut input);
+    let mut out = [0u8; 65536];
+    let mut input = [0u8; 65536];
+    let streams = cmd_streams::open_streams(rt.stdin(), rt.stdout(), rt.stderr());
+    let first = cmd_streams::read_once(streams, &mut input);
     if first.count == 0 {
-        cmd_streams::close(first.streams, &out, 0);
+        cmd_streams::close(&rt, first.streams, &out, 0);
         return;
     }
-    let Asked::Number(op) = cmd_streams::read_number() else {
+    let Asked::Number(op) = cmd_streams::read_number(&rt, first.streams) else {
         return;
     };
     let s = run(
@@ -275,5 +275,5 @@ fn main() {
         &mut input,
     );
     let t = finish(s, op, &line, &mut xs, &mut marks, &mut out);
-    cmd_streams::close(t.streams, &out, t.bad);
+    cmd_streams::close(&rt, t.streams, &out, t.bad);
 }

@@ -8,7 +8,6 @@ use crate::place::{with_refusal, write_place};
 use cmd_operations::line::{Line, empty, with_count, with_number, with_text};
 use cmd_operations::text::Text;
 use cmd_streams::Streams;
-use libc::STDERR_FILENO;
 use paskerotim::{Listed64, list64};
 use text_lines::write_bytes;
 
@@ -31,21 +30,21 @@ pub struct Answered {
 }
 
 // Writes a line to standard error.
-fn tell(l: Line) {
+fn tell(s: Streams, l: Line) {
     let mut text = [0u8; 256];
     let end = cmd_operations::line::write_line(&mut text, 0, l);
     let next = write_bytes(&mut text, end, b"\n");
-    io::write_all(STDERR_FILENO, text_lines::part(&text, 0, next));
+    cmd_streams::tell(s, text_lines::part(&text, 0, next));
 }
 
 // Reports that a piece was refused.
-fn tell_refused(piece: Piece, refusal: u32) {
+fn tell_refused(s: Streams, piece: Piece, refusal: u32) {
     let first = std::num::wrapping_add_u64(piece.before, 1);
     let last = std::num::wrapping_add_u64(piece.before, piece.places as u64);
     let number = with_number(with_text(empty(), Text::Piece as u8), piece.number);
     let from = with_count(number, Text::Lines as u8, first, Text::To as u8);
     let to = with_text(with_number(from, last), Text::Comma as u8);
-    tell(with_refusal(to, refusal));
+    tell(s, with_refusal(to, refusal));
 }
 
 fn write_line(
@@ -129,7 +128,7 @@ pub fn answer_piece(
     let refusal = listed.refusal;
     let t = write_lines(s, out, piece.before, n, &ys, marks, refusal);
     if refusal > 0 {
-        tell_refused(piece, refusal);
+        tell_refused(t, piece, refusal);
         return Answered {
             streams: t,
             bad: n as u64,
@@ -142,7 +141,7 @@ pub fn answer_piece(
 }
 
 // Reports progress.
-pub fn tell_progress(answered: u64, bad: u64) {
+pub fn tell_progress(s: Streams, answered: u64, bad: u64) {
     let line = with_count(empty(), Text::Pk as u8, answered, Text::Answered as u8);
-    tell(with_text(with_number(line, bad), Text::OfThemBad as u8));
+    tell(s, with_text(with_number(line, bad), Text::OfThemBad as u8));
 }

@@ -9,5 +9,5 @@ none_kept = record { held = 0; is_long = false }
 
 -- the bytes s appended to those kept, as far as there is room, and whether there were more
 pub record MoreKept (xs : List ℕ) (k : Kept) (s : List ℕ) (xs' : List ℕ) (k' : Kept) : Type 0 where
-  pub bytes : Placed xs k.held (take (256 - k.held) s) xs' k'.held
-  pub more : k'.is_long ≡ cond (ltb (256 - k.held) (length s)) true k.is_long
+  pub bytes : Placed xs k.held (take (128 - k.held) s) xs' k'.held
+  pub more : k'.is_long ≡ cond (ltb (128 - k.held) (length s)) true k.is_long

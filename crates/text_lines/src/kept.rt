@@ -6,7 +6,7 @@ use crate::scan::part;
 use text_numbers::write::write_bytes;
 
 // The bytes that are kept: more than any request has, with ` -> ` after it.
-pub const KEPT: usize = 256;
+pub const KEPT: usize = 128;
 
 // How many bytes are kept, and whether there were more.
 #[derive(Clone, Copy)]
@@ -25,13 +25,13 @@ pub fn nothing_kept() -> Kept
 }
 
 fn room_after(held: usize) -> usize
-    ensures { result ≡ 256 - held }
+    ensures { result ≡ 128 - held }
 {
     if held < KEPT { KEPT - held } else { 0 }
 }
 
 // Appends the bytes of s to those kept, as far as there is room.
-pub fn keep(line: &mut [u8; 256], mut k: Kept, s: &[u8]) -> Kept
+pub fn keep(line: &mut [u8; 128], mut k: Kept, s: &[u8]) -> Kept
     ensures { MoreKept line.old k s.now line.new result }
 {
     let held = k.held;

@@ -1,8 +1,8 @@
 -- `pk::run` is safe and ends. The measure is the number of turns left. Assumes nothing.
 use Rattle.pk.proofs.run.Given as goal
 
-abbrev pub invariant-loop-turns : goal.invariant-loop-turns
-invariant-loop-turns l = Unit {0}
+abbrev pub invariant-loop : goal.invariant-loop
+invariant-loop l = Unit {0}
 
-abbrev pub decreases-loop-turns : goal.decreases-loop-turns
-decreases-loop-turns l = l.turns
+abbrev pub decreases-loop : goal.decreases-loop
+decreases-loop l = l.counter

@@ -1,45 +1,103 @@
--- `pk::call::answer_of` meets its contract: for each number the call gives what the table's definition gives, and the writers fill the room. Assumes nothing.
-use Rattle.std.proofs.Common.{arith, rules}
-use Rattle.cmd_operations.specs.Table.{two}
-use Rattle.pk.proofs.Answering.{under, past, no_row, both, unfilled}
+-- `pk::call::answer_of` meets its contract: for each number the call gives what the table's definition gives, past the last one `answer_under`'s. Assumes nothing.
+use Rattle.std.proofs.Common.{ap, ◌∙◌, arith, w32}
+use mir.ValLaws.{to_z-of_z}
+use Rattle.ieee.specs.Format.{b64, b32}
+use Rattle.ieee.specs.Scalbn.{scalbn_of, scalbn_flags}
+use Rattle.cmd_operations.specs.Table.{one, two, flagged, signed}
+use Rattle.pk.proofs.Answering.{under, past, both}
 use Rattle.pk.proofs.call.answer_of.Goals as goal
 
-pub returns-then-number-lt31 : goal.returns-then-number-lt31
-returns-then-number-lt31 c = (c.answer_words.ensures _ _, unfilled (λ e. omega (arith, e)) (λ e. omega (arith, e)))
+pub answer_under-requires : goal.answer_under-requires
+answer_under-requires c = past 0 25 _ (omega arith) c.match.rest
 
-pub returns-in-31 : goal.returns-in-31
-returns-in-31 c =
-    let is = c.match.keys1 in
-    (under 31 _ _ _ is (both two c.read64.ensures c.read_hex64.ensures), unfilled (λ e. omega (arith, e, is)) (λ e. omega (arith, e, is)))
+pub returns-in-0 : goal.returns-in-0
+returns-in-0 c = under 0 _ c.match.keys1 (both flagged c.flagged64.ensures c.floor64_flags.ensures)
 
-pub returns-in-32 : goal.returns-in-32
-returns-in-32 c =
-    let is = c.match.keys2 in
-    (under 32 _ _ _ is (both two c.read32.ensures c.read_hex32.ensures), unfilled (λ e. omega (arith, e, is)) (λ e. omega (arith, e, is)))
+pub returns-in-1 : goal.returns-in-1
+returns-in-1 c = under 1 _ c.match.keys2 (both flagged c.flagged32.ensures c.floor32_flags.ensures)
 
-pub returns-in-33 : goal.returns-in-33
-returns-in-33 c =
-    let is = c.match.keys3 in
-    (under 33 _ _ _ is (both two c.read64-in-33.ensures c.read_hex64_rounded.ensures), unfilled (λ e. omega (arith, e, is)) (λ e. omega (arith, e, is)))
+pub returns-in-2 : goal.returns-in-2
+returns-in-2 c = under 2 _ c.match.keys3 (both flagged c.flagged642.ensures c.trunc64_flags.ensures)
 
-pub returns-in-34 : goal.returns-in-34
-returns-in-34 c =
-    let is = c.match.keys4 in
-    (under 34 _ _ _ is (both two c.read32-in-34.ensures c.read_hex32_rounded.ensures), unfilled (λ e. omega (arith, e, is)) (λ e. omega (arith, e, is)))
+pub returns-in-3 : goal.returns-in-3
+returns-in-3 c = under 3 _ c.match.keys4 (both flagged c.flagged322.ensures c.trunc32_flags.ensures)
 
-pub returns-in-35 : goal.returns-in-35
-returns-in-35 c =
-    let is = c.match.keys5 in
-    let (number, size, bytes) = c.write_hex64.ensures in
-    (under 35 _ _ _ is (both two c.written.ensures (number, size)), record { by_write64 = λ e. bytes; by_write32 = λ e. absurd (omega (arith, e, is)) })
+pub returns-in-4 : goal.returns-in-4
+returns-in-4 c =
+    under 4 _ c.match.keys5
+    (let e = to_z-of_z w32 c.args.a.n (record { sfits = c.struct_told-1.given.1.1.1.0.1 }) in
+    let (v, f) = c.scalbn64_flags.ensures in
+    both flagged c.flagged643.ensures (v ∙ ap (scalbn_of b64 _) e, f ∙ ap (scalbn_flags b64 _) e))
 
-pub returns-in-36 : goal.returns-in-36
-returns-in-36 c =
-    let is = c.match.keys6 in
-    let (number, size, bytes) = c.write_hex32.ensures in
-    (under 36 _ _ _ is (both two c.written-in-36.ensures (number, size)), record { by_write64 = λ e. absurd (omega (arith, e, is)); by_write32 = λ e. bytes })
+pub returns-in-5 : goal.returns-in-5
+returns-in-5 c =
+    under 5 _ c.match.keys6
+    (let e = to_z-of_z w32 c.args.a.n (record { sfits = c.struct_told-in-5-1.given.1.1.1.0.1 }) in
+    let (v, f) = c.scalbn32_flags.ensures in
+    both flagged c.flagged323.ensures (v ∙ ap (scalbn_of b32 _) e, f ∙ ap (scalbn_flags b32 _) e))
+
+pub returns-in-6 : goal.returns-in-6
+returns-in-6 c = under 6 _ c.match.keys7 (c.word64.ensures ∙ ap one c.fmod64.ensures)
+
+pub returns-in-7 : goal.returns-in-7
+returns-in-7 c = under 7 _ c.match.keys8 (c.word32.ensures ∙ ap one c.fmod32.ensures)
+
+pub returns-in-8 : goal.returns-in-8
+returns-in-8 c = under 8 _ c.match.keys9 (both signed c.quotient64.ensures c.remquo64.ensures)
+
+pub returns-in-9 : goal.returns-in-9
+returns-in-9 c = under 9 _ c.match.keys10 (both two c.refusal64.ensures c.reduce64.ensures)
+
+pub returns-in-10 : goal.returns-in-10
+returns-in-10 c = under 10 _ c.match.keys11 (both two c.refusal32.ensures c.reduce32.ensures)
+
+pub returns-in-11 : goal.returns-in-11
+returns-in-11 c = under 11 _ c.match.keys12 (both flagged c.flagged644.ensures c.sqrt64_flags.ensures)
+
+pub returns-in-12 : goal.returns-in-12
+returns-in-12 c = under 12 _ c.match.keys13 (both flagged c.flagged324.ensures c.sqrt32_flags.ensures)
+
+pub returns-in-13 : goal.returns-in-13
+returns-in-13 c = under 13 _ c.match.keys14 (both flagged c.flagged645.ensures c.fma64_flags.ensures)
+
+pub returns-in-14 : goal.returns-in-14
+returns-in-14 c = under 14 _ c.match.keys15 (both flagged c.flagged325.ensures c.fma32_flags.ensures)
+
+pub returns-in-15 : goal.returns-in-15
+returns-in-15 c = under 15 _ c.match.keys16 (both flagged c.flagged646.ensures c.ceil64_flags.ensures)
+
+pub returns-in-16 : goal.returns-in-16
+returns-in-16 c = under 16 _ c.match.keys17 (both flagged c.flagged326.ensures c.ceil32_flags.ensures)
+
+pub returns-in-17 : goal.returns-in-17
+returns-in-17 c = under 17 _ c.match.keys18 (both two c.parts64.ensures c.modf64.ensures)
+
+pub returns-in-18 : goal.returns-in-18
+returns-in-18 c = under 18 _ c.match.keys19 (both two c.parts32.ensures c.modf32.ensures)
+
+pub returns-in-19 : goal.returns-in-19
+returns-in-19 c = under 19 _ c.match.keys20 (both signed c.exponent64.ensures c.frexp64.ensures)
+
+pub returns-in-20 : goal.returns-in-20
+returns-in-20 c = under 20 _ c.match.keys21 (both signed c.exponent32.ensures c.frexp32.ensures)
+
+pub returns-in-21 : goal.returns-in-21
+returns-in-21 c =
+    under 21 _ c.match.keys22
+    (let e = to_z-of_z w32 c.ilogb64.result (record { sfits = c.ilogb64.type_inv }) in
+    c.integer.ensures ∙ ap (signed 0) (e ∙ c.ilogb64.ensures))
+
+pub returns-in-22 : goal.returns-in-22
+returns-in-22 c =
+    under 22 _ c.match.keys23
+    (let e = to_z-of_z w32 c.ilogb32.result (record { sfits = c.ilogb32.type_inv }) in
+    c.integer2.ensures ∙ ap (signed 0) (e ∙ c.ilogb32.ensures))
+
+pub returns-in-23 : goal.returns-in-23
+returns-in-23 c = under 23 _ c.match.keys24 (c.word642.ensures ∙ ap one c.nextafter64.ensures)
+
+pub returns-in-24 : goal.returns-in-24
+returns-in-24 c = under 24 _ c.match.keys25 (c.word322.ensures ∙ ap one c.nextafter32.ensures)
 
 pub returns-in_default : goal.returns-in_default
-returns-in_default c =
-    let more = past 31 6 _ (search rules) c.match.rest in
-    (no_row _ _ _ more c.two_answers.ensures, unfilled (λ e. omega (arith, e, more)) (λ e. omega (arith, e, more)))
+returns-in_default c = c.answer_under.ensures

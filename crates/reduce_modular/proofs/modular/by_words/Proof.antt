@@ -24,7 +24,11 @@ last : (c : tie.After-shift_reduce-last invariant-loop decreases-loop) → let s
 last c = let l = c.before.before in after_last (omega arith) l.loop-left.invariant.1 l.loop-left.invariant.0 c.shift_reduce-last.ensures
 
 returns : tie.Need-returns invariant-loop decreases-loop
-returns c = search rules
+returns c =
+    let b = c.before.before in
+    let s = b.before.before.before.before in
+    c.subtract_once.ensures ∙ ap (λ h. h % s.args.n) c.before.partial_remainder-r.ensures ∙ left_at_last (omega arith) (last b.before).left
+
 new-requires : tie.Need-new-state-requires invariant-loop decreases-loop
 new-requires c κs = search rules
 
@@ -48,9 +52,11 @@ shift-reduce-requires : tie.Need-shift_reduce-last-requires invariant-loop decre
 shift-reduce-requires c κs = (c.before.loop-left.invariant.0.state.reduces, omega arith)
 
 partial-remainder-requires : tie.Need-partial_remainder-r-requires invariant-loop decreases-loop
-partial-remainder-requires c κs = search rules
+partial-remainder-requires c κs = (last c.before).state.reduces
+
 subtract-once-requires : tie.Need-subtract_once-requires invariant-loop decreases-loop
-subtract-once-requires c κs = search rules
+subtract-once-requires c κs = omega (arith, c.partial_remainder-r.ensures, state_below (last c.before.before).state)
+
 pub by_words_spec : {M : Type 1} → statement M
 by_words_spec =
     tie.close

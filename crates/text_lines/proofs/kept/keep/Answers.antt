@@ -12,16 +12,16 @@ pub returns-then-s-room : goal.returns-then-s-room
 returns-then-s-room c =
     let args = c.args in
     let room = c.room_after-room.result in
-    let is : 256 - args.k.held ≡ room = sym c.room_after-room.ensures in
+    let is : 128 - args.k.held ≡ room = sym c.room_after-room.ensures in
     record {
       bytes = rw (is, ← first_part room args.s.now (omega arith), ← c.part.ensures) c.write_bytes.ensures;
-      more = rw (lt-ltb (256 - args.k.held) (length args.s.now) (omega arith));
+      more = rw (lt-ltb (128 - args.k.held) (length args.s.now) (omega arith));
     }
 
 pub returns : goal.returns
 returns c =
     let args = c.args in
     record {
-      bytes = rw (take_all (256 - args.k.held) args.s.now (omega arith)) c.write_bytes-2.ensures;
-      more = rw (le-ltb (256 - args.k.held) (length args.s.now) (omega arith));
+      bytes = rw (take_all (128 - args.k.held) args.s.now (omega arith)) c.write_bytes-2.ensures;
+      more = rw (le-ltb (128 - args.k.held) (length args.s.now) (omega arith));
     }

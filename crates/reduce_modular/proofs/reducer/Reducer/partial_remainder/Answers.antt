@@ -4,6 +4,11 @@ use native.Mathlib.Omega.{arith}
 use Rattle.reduce_laws.proofs.Widths.{upper_leaves_room, held_by_upper}
 use Rattle.reduce_modular.proofs.reducer.Reducer.partial_remainder.Goals as goal
 
+pub returns : goal.returns
+returns c =
+    let p = c.args.self.product in
+    c.mul_hi.ensures ∙ held_by_upper (omega arith) c.requires p.hi p.lo refl c.struct_known-1.given.1.1.0.1.0.fits
+
 pub overflow_add-self : goal.overflow_add-self
 overflow_add-self c =
     let p = c.args.self.product in
