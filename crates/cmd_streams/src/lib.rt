@@ -8,7 +8,7 @@ use std::{fs, io};
 use text_lines::Field;
 
 // The descriptor that the operation's number is read from. It is opened by its name, and where it is closed there is no file of that name.
-const NUMBER: &str = "/dev/fd/5";
+const ORDER: &str = "/dev/fd/5";
 
 // The descriptor that the number of bad lines is written to. Without that number the run did not finish.
 const VERDICT: &str = "/dev/fd/3";
@@ -130,7 +130,7 @@ fn write_verdict(rt: &impl Files, bad: u64) -> io::Result<()> {
 }
 
 fn read_some(rt: &impl Files, text: &mut [u8; 16]) -> io::Result<usize> {
-    let mut file = fs::open(rt, NUMBER)?;
+    let mut file = fs::open(rt, ORDER)?;
     file.read(text)
 }
 

@@ -3,7 +3,7 @@ use Rattle.std.proofs.Common.{◌≡◌, ◌+◌, ◌-◌, length}
 use Rattle.cmd_operations.proofs.table.write_names.Given as goal
 
 abbrev pub invariant-loop-from : goal.invariant-loop-from
-invariant-loop-from l = length l.end ≡ length l.initial.out
+invariant-loop-from l = length l.out ≡ length l.initial.out
 
 abbrev pub decreases-loop-from : goal.decreases-loop-from
-decreases-loop-from l = length l.table + 9 - from
+decreases-loop-from l = length l.table + 9 - l.from

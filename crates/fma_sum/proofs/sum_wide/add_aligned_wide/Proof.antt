@@ -35,10 +35,21 @@ module _ (o : tie.Start) where
   below = added_below 64 (value o.args.p.sig) o.args.q.sig d {k = 2 ^ 127} level.0 level.1 o.requires.0 o.requires.2 refl
 
 add-signed-wide-requires : tie.Need-add_signed_wide-s-requires
-add-signed-wide-requires o κs = search rules
+add-signed-wide-requires c κs = below c.before.before
+
 add-to-exponent-requires : tie.Need-add_to_exponent-requires
-add-to-exponent-requires c κs = search rules
+add-to-exponent-requires c κs = let o = c.before.before.before.before.before in simp (to_z-of_z, p-sfits o) (omega (arith, o.requires.1), omega (arith, down_small o))
+
 returns : tie.Need-returns
-returns c = search rules
+returns c =
+    let i = c.before.before.before.before.before.before in
+    let (a, b, k) = level i in
+    let s = i.args in
+    let (sum, neg) = c.before.before.before.add_signed_wide-s.ensures in
+    let exp : c.add_to_exponent.result ≡ s.p.exp +ℤ pos (down_by 64 (d i)) = simp (to_z-of_z, p-sfits i) at c.add_to_exponent.ensures ∙ ap (λ u. s.p.exp +ℤ pos u) k in
+    let small : mag c.add_to_exponent.result < 2 ^ 19 + 2 ^ 18 = rw exp (added_exp_small s.p.exp s.q.exp i.requires.1 i.requires.3 64) in
+    let back : SFits w32 c.add_to_exponent.result = record { sfits = omega (arith, small) } in
+    simp (to_z-of_z, back) ((sum ∙ ap₂ (joined (unlike s.p.neg s.q.neg)) a b, neg ∙ ap₂ (joined_sign s.p.neg s.q.neg) a b, exp), small, joined_below (unlike s.p.neg s.q.neg) (value s.a.product) (value s.a.third) sum (below i))
+
 pub add_aligned_wide_spec : {M : Type 1} → statement M
 add_aligned_wide_spec = tie.close (tie.spec add-signed-wide-requires add-to-exponent-requires returns)

@@ -14,8 +14,10 @@ module _ (i : tie.Start) where
   q-sfits = record { sfits = omega (arith, i.requires.1) }
 
 align-wide-requires : tie.Need-align_wide-requires
-align-wide-requires c κs = search rules
+align-wide-requires c κs = let i = c.before.before.before in simp (to_z-of_z, p-sfits i, q-sfits i) i.requires
+
 returns : tie.Need-returns
-returns c = search rules
+returns c = let i = c.before.before.before.before in simp (to_z-of_z, p-sfits i, q-sfits i) at c.align_wide.ensures
+
 pub align_third_wide_spec : {M : Type 1} → statement M
 align_third_wide_spec = tie.close (tie.spec align-wide-requires returns)

@@ -5,14 +5,6 @@ use borrow.Author.Tests.{ltb-true, ltb-false}
 use Rattle.lists.proofs.Numbers.{unknown, long, unlike, accepted}
 use Rattle.lists.proofs.refusal.list_refusal.Goals as goal
 
-pub returns-then-op-lt1 : goal.returns-then-op-lt1
-returns-then-op-lt1 c = let a = c.args in unknown a.limit a.op a.read a.written (⊎_elim (λ w l m. omega arith) (λ w l m. omega (arith, ltb-true)) c.if-op-lt1.branch)
-
-pub returns-then-read-limit : goal.returns-then-read-limit
-returns-then-read-limit c =
-    let a = c.args in
-    long a.limit a.op a.read a.written (omega arith) (omega (arith, ltb-false)) (⊎_elim (λ w l m. omega arith) (λ w l m. omega (arith, ltb-true)) c.if-read-limit.branch)
-
 pub returns-then-read-written : goal.returns-then-read-written
 returns-then-read-written c =
     let a = c.args in
