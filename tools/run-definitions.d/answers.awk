@@ -1,15 +1,15 @@
-# Reads what rt said of the declarations that ask, and prints for each that shows its answer: NAME PART PART .., of twenty decimal digits each,
+# Reads what the checker said of the declarations that ask, and prints for each that shows its answer: NAME PART PART .., of twenty decimal digits each,
 # in the order of the line. For each flag that is raised it prints NAME-flagNUMBER.
 
 # the declaration says that the flag is not raised
-/\/proofs\/Lines\.antt:[0-9]+:[0-9]+: error: `line[0-9]+-flag[1-5]`/ {
+/\/proofs\/[a-z0-9]+\.antt:[0-9]+:[0-9]+: error: `line[0-9]+-flag[1-5]`/ {
     tell()
     sub(/.*error: `line/, "")
     sub(/`.*/, "")
     print
     next
 }
-/\/proofs\/Lines\.antt:[0-9]+:[0-9]+: error: `line[0-9]+(-[0-9]+)?`/ {
+/\/proofs\/[a-z0-9]+\.antt:[0-9]+:[0-9]+: error: `line[0-9]+(-[0-9]+)?`/ {
     tell()
     name = $0
     sub(/.*error: `line/, "", name)

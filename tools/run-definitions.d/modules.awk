@@ -29,17 +29,17 @@ pass == 1 { total += weight(); if (of_numerals(base)) hasNumerals = 1; next }
 }
 END { if (module != "") close_module() }
 
-# what a line costs the checker, in ms or so; a module costs it 500 besides
+# what a line costs the checker, in ms or so; a run of it costs some seconds besides, whatever it has
 function weight() {
     if (!with_flags(form)) return (width == 64 ? 5 : 3) + 5 * afterCount
     if (base == "floor" || base == "trunc" || base == "ceil") return width == 64 ? 5 : width == 32 ? 2 : 1
     return width == 64 ? 10 : width == 32 ? 4 : 2
 }
 
-# the work of a module: `most` or less, so that as many run as rt runs beside each other, if they are worth their start
+# the work of a module: `most` or less, so that as many are checked as the checker has jobs
 function share_of_work(    n) {
     n = int((total + most - 1) / most)
-    while (n % 4 && total / (n + 1) > 1000) n++
+    while (n % jobs && total / (n + 1) > 250) n++
     return total / n
 }
 
@@ -49,28 +49,23 @@ function open_module() {
     forDoubted = (lineNumber in isDoubted)
     module = round "x" (++modules)
     out = folder "/" module ".antt"
-    put("use Prim.Native.Nat.{ℕ, suc, _+_, _*_}\n")
-    put("use mathlib.Core.Path.{_≡_, refl}\n")
-    put("use mathlib.Core.Bool.{Bool, true, false, _&&_}\n")
-    put("use mathlib.Core.List.{List, [], _∷_, _++_}\n")
-    put("use lib.ListN.{replicate, take, drop, length, getD}\n")
-    put("use lib.Dec.{eqb}\n")
-    put("use lib.IntN.{ℤ, pos, negsuc}\n")
-    put("use Rattle·ieee.specs.Format.{b64, b32, b16}\n")
-    put("use Rattle·ieee.specs.Flags.{flag_word}\n")
-    put("use Rattle·ieee.specs.Sqrt.{sqrt_of, sqrt_flags}\n")
-    put("use Rattle·ieee.specs.Whole.{floor_of, floor_flags, trunc_of, trunc_flags, ceil_of, ceil_flags}\n")
-    put("use Rattle·ieee.specs.Scalbn.{scalbn_of, scalbn_flags}\n")
-    put("use Rattle·ieee.specs.Fma.{fma_of, fma_flags}\n")
-    put("use Rattle·ieee.specs.Rounded.{Rounded, sqrt_rounded, fma_rounded, scalbn_rounded}\n")
-    put("use Rattle·ieee.specs.Fmod.{fmod_of}\n")
-    put("use Rattle·ieee.specs.Remquo.{remquo_of, quotient_of}\n")
-    put("use Rattle·ieee.specs.Refusal.{number_of, value_of}\n")
-    put("use Rattle·ieee.specs.Reduction.{reduce_of}\n")
-    put("use Rattle·ieee.specs.Lists.{list_of}\n")
-    put("use Rattle·ieee.specs.Modf.{modf_of, modf_whole}\n")
-    put("use Rattle·ieee.specs.Frexp.{frexp_of, frexp_exponent, ilogb_of}\n")
-    put("use Rattle·ieee.specs.Nextafter.{nextafter_of}\n")
+    put("use Rattle.std.specs.Prelude.{◌≡◌, ℕ, suc, ◌+◌, ◌*◌, Bool, true, false, ◌&&◌, eqb, List, [], ◌∷◌, ◌++◌, length, get_or, take, drop, replicate, ℤ, pos, negsuc}\n")
+    put("use mathlib.Core.Path.{refl}\n")
+    put("use Rattle.ieee.specs.Format.{b64, b32, b16}\n")
+    put("use Rattle.ieee.specs.Flags.{flag_word}\n")
+    put("use Rattle.ieee.specs.Sqrt.{sqrt_of, sqrt_flags}\n")
+    put("use Rattle.ieee.specs.Whole.{floor_of, floor_flags, trunc_of, trunc_flags, ceil_of, ceil_flags}\n")
+    put("use Rattle.ieee.specs.Scalbn.{scalbn_of, scalbn_flags}\n")
+    put("use Rattle.ieee.specs.Fma.{fma_of, fma_flags}\n")
+    put("use Rattle.ieee.specs.Rounded.{Rounded, sqrt_rounded, fma_rounded, scalbn_rounded}\n")
+    put("use Rattle.ieee.specs.Fmod.{fmod_of}\n")
+    put("use Rattle.ieee.specs.Remquo.{remquo_of, quotient_of}\n")
+    put("use Rattle.ieee.specs.Refusal.{number_of, value_of}\n")
+    put("use Rattle.ieee.specs.Reduction.{reduce_of}\n")
+    put("use Rattle.ieee.specs.Lists.{list_of}\n")
+    put("use Rattle.ieee.specs.Modf.{modf_of, modf_whole}\n")
+    put("use Rattle.ieee.specs.Frexp.{frexp_of, frexp_exponent, ilogb_of}\n")
+    put("use Rattle.ieee.specs.Nextafter.{nextafter_of}\n")
     if (hasNumerals) put_numerals()
     put("\n")
     put_told()
@@ -87,21 +82,21 @@ function close_module() {
 # the answer of a line with flags
 function put_told() {
     put("abbrev told : Rounded → List ℕ\n")
-    put("told r = r .number ∷ r .value ∷ flag_word (r .flags) ∷ []\n\n")
+    put("told r = r.number ∷ r.value ∷ flag_word r.flags ∷ []\n\n")
 }
 
 # the definitions of numerals, and the answers of such lines
 function put_numerals() {
-    put("use Rattle·ieee.specs.Refusal.{Answer}\n")
-    put("use Rattle·ieee_numeral_laws.specs.Read.{read_of, read_rounded}\n")
-    put("use Rattle·ieee_numeral_laws.specs.Write.{Written, write_of}\n\n")
+    put("use Rattle.ieee.specs.Refusal.{Answer}\n")
+    put("use Rattle.ieee_numeral_laws.specs.Read.{read_of, read_rounded}\n")
+    put("use Rattle.ieee_numeral_laws.specs.Write.{Written, write_of}\n\n")
     put("abbrev answered : Answer → List ℕ\n")
     put("answered a = number_of a ∷ value_of a ∷ []\n\n")
     put("abbrev wrote : Written → List ℕ\n")
-    put("wrote w = number_of (w .answer) ∷ value_of (w .answer) ∷ w .output\n\n")
+    put("wrote w = number_of w.answer ∷ value_of w.answer ∷ w.output\n\n")
     if (mode != "ask") return
     put("abbrev text_in : Written → List ℕ\n")
-    put("text_in w = take (value_of (w .answer)) (w .output)\n\n")
+    put("text_in w = take (value_of w.answer) w.output\n\n")
     # the first byte is the last of the number's
     put("abbrev packed : List ℕ → ℕ\n")
     put("packed [] = 0\n")
@@ -152,7 +147,7 @@ function set_terms(    format, definition, kind, n, i) {
 # one term: the list of the parts of the answer
 function set_terms_with_flags(format) {
     if (form == base) {
-        term[1] = "(" base "Of" format operand_terms() " ∷ flag_word (" base "Flags" format operand_terms() ") ∷ [])"
+        term[1] = "(" base "_of" format operand_terms() " ∷ flag_word (" base "_flags" format operand_terms() ") ∷ [])"
         said[1] = "(0x" answer[1] " ∷ " numberOfFlags[answer[2]] " ∷ [])"
     } else {
         term[1] = "told (" rounded_call() ")"
@@ -162,22 +157,22 @@ function set_terms_with_flags(format) {
 }
 
 # without an attribute, under nearest even
-function rounded_call() { return base "Rounded b" width " " (form == base ? 0 : attribute(suffixOf(op))) operand_terms() }
+function rounded_call() { return base "_rounded b" width " " (form == base ? 0 : attribute(suffixOf(op))) operand_terms() }
 
 # The call under an attribute takes fewest steps, so it is asked where there is one. What it shows is run in its turn, by the line's own definition.
 function ask_with_flags(    flags, definitions, n, i) {
     if (stemOf(op) in takesAttribute) {
-        term[++n] = rounded_call() " .number"
-        term[++n] = rounded_call() " .value"
-        flags = rounded_call() " .flags"
+        term[++n] = "(" rounded_call() ").number"
+        term[++n] = "(" rounded_call() ").value"
+        flags = "(" rounded_call() ").flags"
         definitions = definitionsOf[base ".A"]
     } else {
-        term[++n] = base "Of b" width hex(1)
-        flags = base "Flags b" width hex(1)
+        term[++n] = base "_of b" width hex(1)
+        flags = "(" base "_flags b" width hex(1) ")"
         definitions = definitionsOf[form]
     }
     declare("line" lineNumber, n, definitions)
-    for (i = 1; i <= flagCount; i++) put_declaration("line" lineNumber "-flag" i, flags " ." flagField[i] " ≡ false", "refl", definitions)
+    for (i = 1; i <= flagCount; i++) put_declaration("line" lineNumber "-flag" i, flags "." flagField[i] " ≡ false", "refl", definitions)
 }
 
 # all operands, of which those after the first are words too, or one number with a sign
@@ -233,18 +228,18 @@ function list_call() {
 
 function write_list(    call, i) {
     call = list_call()
-    term[1] = "number_of (" call " .answer)"; said[1] = answer[1]
-    term[2] = "value_of (" call " .answer)"; said[2] = 0
-    if (mode == "ask") term[3] = "length (" call " .output)"
+    term[1] = "number_of (" call ").answer"; said[1] = answer[1]
+    term[2] = "value_of (" call ").answer"; said[2] = 0
+    if (mode == "ask") term[3] = "length (" call ").output"
     else {
         write_places("after" lineNumber, after, 1, afterCount)
-        term[3] = call " .output"; said[3] = "after" lineNumber
+        term[3] = "(" call ").output"; said[3] = "after" lineNumber
     }
     declare("line" lineNumber, 3, definitionsOf[form])
     if (mode != "ask") return
     # each place by itself; the output is as long as one of the two lists
     for (i = 1; i <= inputCount || i <= beforeCount; i++) {
-        term[1] = "getD (" call " .output) " (i - 1) " 0"
+        term[1] = "get_or (" call ").output " (i - 1) " 0"
         declare("line" lineNumber "-" i, 1, definitionsOf[form])
     }
 }
@@ -252,15 +247,15 @@ function write_list(    call, i) {
 # the answer, the length of the output, then the output slice by slice
 function write_long_list(    call, k, from, to, name) {
     call = list_call()
-    write_part("answer", "number_of (" call " .answer)", answer[1], "eqb")
-    write_part("value", "value_of (" call " .answer)", 0, "eqb")
-    write_part("length", "length (" call " .output)", afterCount, "eqb")
+    write_part("answer", "number_of (" call ").answer", answer[1], "eqb")
+    write_part("value", "value_of (" call ").answer", 0, "eqb")
+    write_part("length", "length (" call ").output", afterCount, "eqb")
     for (k = 1; (k - 1) * slice < afterCount; k++) {
         from = (k - 1) * slice + 1
         to = last_of_slice(k)
         name = "after" lineNumber "-" k
         write_places(name, after, from, to)
-        write_part(k, "take " (to - from + 1) " (drop " (from - 1) " (" call " .output))", name, "same")
+        write_part(k, "take " (to - from + 1) " (drop " (from - 1) " (" call ").output)", name, "same")
     }
 }
 

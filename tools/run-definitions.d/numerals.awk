@@ -23,8 +23,8 @@ function ask_terms_of_numeral(    call) {
         term[2] = "value_of (" call ")"
         return 2
     }
-    term[1] = "number_of (" call " .answer)"
-    term[2] = "value_of (" call " .answer)"
+    term[1] = "number_of (" call ").answer"
+    term[2] = "value_of (" call ").answer"
     term[3] = "packed (take 8 (text_in (" call ")))"
     term[4] = "packed (take 8 (drop 8 (text_in (" call "))))"
     term[5] = "packed (drop 16 (text_in (" call ")))"

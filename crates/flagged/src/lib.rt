@@ -1,5 +1,6 @@
 // The operations with their flags as a record of five bools.
 #![tactic(auto)]
+
 ghost use Rattle.std.specs.Prelude.{◌≡◌};
 ghost use Rattle.ieee.specs.Format.{b64, b32};
 ghost use Rattle.ieee.specs.Fma.{fma_of, fma_flags};

@@ -1,5 +1,6 @@
 // fma: x times y plus z, rounded once.
 #![tactic(auto)]
+
 pub mod flags;
 pub mod fma;
 pub mod rounded;

@@ -1,5 +1,6 @@
 // The parts of x times y plus z of numbers, added and located, over the format.
 #![tactic(auto)]
+
 pub mod sum;
 pub mod sum_wide;
 pub mod third;

@@ -1,5 +1,6 @@
 // Signed exponents: clamped to a range, and exponent fields moved by them.
 #![tactic(auto)]
+
 ghost use Rattle.std.specs.Prelude.{◌≡◌, ◌<◌, ◌^◌, pos, ◌+ℤ◌};
 ghost use Rattle.ieee.specs.Scalbn.{clamp};
 ghost use Rattle.fmt_exponents.specs.Field.{above, depth_of};

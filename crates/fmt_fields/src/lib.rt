@@ -1,5 +1,6 @@
 // The fields of a pattern: exponent, fraction and sign; and a pattern made of a sign and a magnitude.
 #![tactic(auto)]
+
 ghost use Rattle.std.specs.Prelude.{◌≡◌, ◌+◌, ◌^◌, ◌<◌, ◌≤◌};
 ghost use Rattle.ieee.specs.Pattern.{minus, field, fraction, signed};
 ghost use Rattle.fmt_fields.specs.Width.{format, Fits};

@@ -1,5 +1,6 @@
 // The hex reader: a hexadecimal numeral, rounded once.
 #![tactic(auto)]
+
 pub mod exponent;
 pub mod number;
 pub mod numeral;

@@ -1,5 +1,6 @@
 // trunc, floor and ceil, each with its flags, and modf, over the format.
 #![tactic(auto)]
+
 pub mod ceil;
 pub mod directed;
 pub mod flags;

@@ -1,3 +1,4 @@
 // nextafter: the next number from x toward y.
 #![tactic(auto)]
+
 pub mod nextafter;

@@ -1,5 +1,6 @@
 // The face: the operations, re-exported, and the same as functions on whole numbers that C can call; crates/paskerotim_c exports these.
 #![tactic(auto)]
+
 ghost use Rattle.std.specs.Prelude.{◌≡◌};
 ghost use Rattle.ieee.specs.Flags.{flag_word};
 ghost use Rattle.ieee.specs.Format.{b64, b32};
@@ -174,13 +175,7 @@ pub fn pk_scalbn64_flags(x: u64, n: i32, flags: &mut u32) -> u64
     a.value
 }
 
-pub fn pk_scalbn64_rounded(
-    attribute: u32,
-    x: u64,
-    n: i32,
-    value: &mut u64,
-    flags: &mut u32,
-) -> u32
+pub fn pk_scalbn64_rounded(attribute: u32, x: u64, n: i32, value: &mut u64, flags: &mut u32) -> u32
     ensures { (result ≡ (scalbn_rounded b64 attribute x n).number) × (value.new ≡ (scalbn_rounded b64 attribute x n).value)
         × (flags.new ≡ flag_word (scalbn_rounded b64 attribute x n).flags) }
 {
@@ -206,13 +201,7 @@ pub fn pk_scalbn32_flags(x: u32, n: i32, flags: &mut u32) -> u32
     a.value
 }
 
-pub fn pk_scalbn32_rounded(
-    attribute: u32,
-    x: u32,
-    n: i32,
-    value: &mut u32,
-    flags: &mut u32,
-) -> u32
+pub fn pk_scalbn32_rounded(attribute: u32, x: u32, n: i32, value: &mut u32, flags: &mut u32) -> u32
     ensures { (result ≡ (scalbn_rounded b32 attribute x n).number) × (value.new ≡ (scalbn_rounded b32 attribute x n).value)
         × (flags.new ≡ flag_word (scalbn_rounded b32 attribute x n).flags) }
 {

@@ -1,5 +1,6 @@
 // The reduction, x times 2^e modulo y, with a refusal for input outside the limits.
 #![tactic(auto)]
+
 ghost use Rattle.std.specs.Prelude.{◌≡◌, ◌<◌, ◌^◌};
 
 pub mod plain;

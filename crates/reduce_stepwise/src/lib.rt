@@ -1,5 +1,6 @@
 // The plain reduction, x times 2^e modulo y, a bit at a time, to which the fast one is proved equal.
 #![tactic(auto)]
+
 ghost use Rattle.std.specs.Prelude.{◌≡◌, ◌*◌, ◌%◌, ◌<◌, ◌^◌};
 
 // x modulo y, for x below twice y: subtracts y once or not at all.

@@ -1,5 +1,6 @@
 // The root of a whole number, digit by digit: rounded down, and whether it is exact.
 #![tactic(auto)]
+
 ghost use Rattle.std.specs.Prelude.{◌≡◌, ◌+◌, ◌*◌, ◌≤◌, ◌<◌, ◌^◌, eqb};
 ghost use Rattle.sqrt_digits.specs.Floor.{FloorRoot, pairs};
 

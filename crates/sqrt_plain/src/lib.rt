@@ -1,5 +1,6 @@
 // The root by digits as C functions, to run beside the table's; not part of `paskerotim`.
 #![tactic(auto)]
+
 ghost use Rattle.std.specs.Prelude.{◌≡◌};
 ghost use Rattle.ieee.specs.Format.{b64, b32};
 ghost use Rattle.ieee.specs.Sqrt.{sqrt_of};

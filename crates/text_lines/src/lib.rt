@@ -1,6 +1,7 @@
 // The parts of a line of text, found and kept, and the fields that docs/LINES.md has.
 // No function reads or writes a file, and a line may have any bytes.
 #![tactic(auto)]
+
 mod kept;
 mod scan;
 

@@ -1,5 +1,6 @@
 // Powers of two and shifts of a word that keep track of the bits they drop.
 #![tactic(auto)]
+
 ghost use Rattle.std.specs.Prelude.{◌≡◌, ◌*◌, ◌/◌, ◌%◌, ◌-◌, ◌<◌, ◌^◌, ltb};
 
 // A word shifted right, and whether a nonzero bit was dropped.

@@ -1,4 +1,5 @@
 // The quotient and the remainder of a two-word number by a word.
 #![tactic(auto)]
+
 pub mod digit;
 pub mod division;

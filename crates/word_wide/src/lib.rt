@@ -1,5 +1,6 @@
 // Two-word numbers: products, sums, comparison and shifts.
 #![tactic(auto)]
+
 pub mod product;
 pub mod shift;
 pub mod sum;

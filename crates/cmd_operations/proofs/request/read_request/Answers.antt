@@ -23,18 +23,18 @@ returns-then-flaw c =
 pub returns-then-r : goal.returns-then-r
 returns-then-r c =
     let stays : c.if-dot-end.r.row ≡ c.new_request-r.result.row =
-        elim c.if-dot-end.branch [
-            then-dot-end w ↦ ap (λ (r : Request). r.row) w.r-is ∙ w.with_attribute-r.ensures
-          | else-dot-end w ↦ ap (λ (r : Request). r.row) w.r-is
-        ] in
+    elim c.if-dot-end.branch [
+      | then-dot-end w ↦ ap (λ (r : Request). r.row) w.r-is ∙ w.with_attribute-r.ensures
+      | else-dot-end w ↦ ap (λ (r : Request). r.row) w.r-is
+    ] in
     stays ∙ c.new_request-r.ensures ∙ row-of-name _ c.row_of-row.ensures c.part.ensures c.name_end-from.ensures c.find-dot.ensures.value c.find-end.ensures.value
 
 pub returns : goal.returns
 returns c =
     let stays : c.if-dot-end.r.row ≡ c.new_request-r.result.row =
-        elim c.if-dot-end.branch [
-            then-dot-end w ↦ ap (λ (r : Request). r.row) w.r-is ∙ w.with_attribute-r.ensures
-          | else-dot-end w ↦ ap (λ (r : Request). r.row) w.r-is
-        ] in
+    elim c.if-dot-end.branch [
+      | then-dot-end w ↦ ap (λ (r : Request). r.row) w.r-is ∙ w.with_attribute-r.ensures
+      | else-dot-end w ↦ ap (λ (r : Request). r.row) w.r-is
+    ] in
     c.read_operands.ensures ∙ stays ∙ c.new_request-r.ensures
     ∙ row-of-name _ c.row_of-row.ensures c.part.ensures c.name_end-from.ensures c.find-dot.ensures.value c.find-end.ensures.value

@@ -21,7 +21,9 @@ fold-requires c κs = search rules
 
 add-to-exponent-requires : tie.Need-add_to_exponent-requires
 add-to-exponent-requires c κs = search rules
+
 returns : tie.Need-returns
 returns c = search rules
+
 pub fold_sum_spec : {M : Type 1} → statement M
 fold_sum_spec = tie.close (tie.spec fold-requires add-to-exponent-requires returns)

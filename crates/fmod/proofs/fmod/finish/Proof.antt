@@ -51,6 +51,7 @@ pack-requires : tie.Need-pack-m-requires
 pack-requires c κs =
     let u = c.before in
     simp (to_z-of_z, exp-fits u) ((s u).requires.0, (ends u).few, u.unpack-b.ensures.3, omega (arith, units-are u, (ends u).fits))
+
 is-negative-requires : tie.Need-is_negative-requires
 is-negative-requires c κs = search rules
 

@@ -32,7 +32,7 @@ pub loop-i-preserved : goal.loop-i-preserved
 loop-i-preserved c =
     let on = blank_on c.args.s.now c.loop-i.i c.loop-i.after_blank (omega arith) in
     elim c.if-is_blank.branch [
-        then-is_blank+else-after_blank w ↦ on (let e = w.if-after_blank.false in rw e)
+      | then-is_blank+else-after_blank w ↦ on (let e = w.if-after_blank.false in rw e)
       | else-is_blank w ↦ on (let e = ne_eqb _ _ w.if-is_blank.false in rw e (and-false c.loop-i.after_blank))
     ]
     ∙ c.loop-i.invariant

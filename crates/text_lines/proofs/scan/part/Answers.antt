@@ -14,6 +14,6 @@ pub returns : goal.returns
 returns c =
     let s = c.args.s.now in
     elim c.if-a-e.branch [
-        then-a-e+else-e-s w ↦ none_past s c.args.a c.args.e w.if-e-s.false
+      | then-a-e+else-e-s w ↦ none_past s c.args.a c.args.e w.if-e-s.false
       | else-a-e w ↦ none_back s c.args.a c.args.e w.if-a-e.false
     ]

@@ -16,12 +16,11 @@ glyph-requires c =
     omega arith
 
 pub loop-i-preserved : goal.loop-i-preserved
-loop-i-preserved c =
-    (
-      simp length-set (omega arith),
-      simp length-set (omega arith),
-      c.loop-i.invariant.2 ∙ write_digit _ c.loop-i.rest c.loop-i.out c.loop-i.i _ c.glyph.ensures (omega arith) (omega arith),
-    )
+loop-i-preserved c = (
+  simp length-set (omega arith),
+  simp length-set (omega arith),
+  c.loop-i.invariant.2 ∙ write_digit _ c.loop-i.rest c.loop-i.out c.loop-i.i _ c.glyph.ensures (omega arith) (omega arith),
+)
 
 pub returns : goal.returns
 returns c = sym (c.loop-i.invariant.2 ∙ all_written _ c.loop-i.rest c.loop-i.out c.loop-i.i (omega arith))

@@ -26,13 +26,12 @@ pub overflow_add-value : goal.overflow_add-value
 overflow_add-value c = record { fits = fits (c.loop-i.i + 1) (omega arith) (bound c) }
 
 pub loop-i-preserved : goal.loop-i-preserved
-loop-i-preserved c =
-    (
-      omega arith,
-      bound c,
-      c.loop-i.invariant.2
-          ∙ read_digit _ c.loop-i.value c.args.s.now c.loop-i.i _ c.digit-d.ensures (omega arith) (omega arith),
-    )
+loop-i-preserved c = (
+  omega arith,
+  bound c,
+  c.loop-i.invariant.2
+      ∙ read_digit _ c.loop-i.value c.args.s.now c.loop-i.i _ c.digit-d.ensures (omega arith) (omega arith),
+)
 
 pub returns : goal.returns
 returns c =

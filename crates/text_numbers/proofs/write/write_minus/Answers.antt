@@ -9,13 +9,12 @@ pub returns-then-at-out : goal.returns-then-at-out
 returns-then-at-out c = (c.digit_count-k.result, c.digit_count-k.ensures, no_room (45 ∷ digits_of 10 c.digit_count-k.result c.args.size) (omega arith))
 
 pub returns-then-end-start : goal.returns-then-end-start
-returns-then-end-start c =
-    (
-      c.digit_count-k.result,
-      c.digit_count-k.ensures,
-      none_before 45 c.write_digits-end.ensures
-          (omega (arith, c.digit_count-k.ensures.some, length_digits 10 c.digit_count-k.result c.args.size)) c.if-end-start.true,
-    )
+returns-then-end-start c = (
+  c.digit_count-k.result,
+  c.digit_count-k.ensures,
+  none_before 45 c.write_digits-end.ensures
+      (omega (arith, c.digit_count-k.ensures.some, length_digits 10 c.digit_count-k.result c.args.size)) c.if-end-start.true,
+)
 
 pub returns : goal.returns
 returns c =
