@@ -25,20 +25,19 @@ const FACT: [&str; 7] = [
 
 // What it says where a proof does not have the shape of the code: it names a step or a way to it that is not there, or takes the steps in another order.
 // A phrase that stands in neither table counts as one of these.
-const FORM: [&str; 6] = [
+const FORM: [&str; 5] = [
     "that can be named from here",
     "` has no field `",
     "this pattern needs a function",
     "no occurrence of the path's left endpoint",
     "no equation of the list has an instance",
-    "expected type `tie.Need-",
 ];
 
 // What it says of a way of returning that is not there, or stands elsewhere among the others.
-const RETURNS: [&str; 2] = ["has no `Need-returns", "expected type `tie.Need-returns"];
+const RETURNS: &str = ".Goals` has no `returns";
 
 // What it says where a declaration only waits for another.
-const WAITS: &str = "so this cannot be checked";
+const WAITS: [&str; 2] = ["so this cannot be checked", "was not admitted"];
 
 pub struct Verdict {
     pub outcome: Outcome,
@@ -76,20 +75,23 @@ pub fn verdict(status: Option<i32>, log: &str) -> Verdict {
 fn sorted(log: &str) -> (Outcome, &str) {
     let errors: Vec<&str> = log
         .lines()
-        .filter(|l| is_error(l) && !l.contains(WAITS))
+        .filter(|l| is_error(l) && !is_like(l, &WAITS))
         .collect();
-    let is_like = |line: &str, phrases: &[&str]| phrases.iter().any(|p| line.contains(p));
     let is_fact = |e: &&&str| is_like(e, &FACT) && !is_like(e, &FORM);
     let form = errors.iter().find(|e| !is_fact(e));
     let at_return = errors
         .iter()
         .find(|e| e.contains(" `returns") && is_fact(e));
-    let are_returns_kept = !errors.iter().any(|e| is_like(e, &RETURNS));
+    let are_returns_kept = !errors.iter().any(|e| e.contains(RETURNS));
     match (form, at_return, errors.first()) {
         (None, _, Some(first)) => (Outcome::Fact, first),
         (Some(_), Some(at), _) if are_returns_kept => (Outcome::Fact, at),
         (form, _, _) => (Outcome::Form, form.unwrap_or(&"")),
     }
+}
+
+fn is_like(line: &str, phrases: &[&str]) -> bool {
+    phrases.iter().any(|p| line.contains(p))
 }
 
 fn is_error(line: &str) -> bool {
