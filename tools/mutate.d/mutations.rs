@@ -166,7 +166,8 @@ impl Maker<'_> {
             Form::Binary => self.binary(id, &word, &kids),
             Form::Assign if word == "+=" => self.sign("an operator exchanged", id, "-="),
             Form::Assign if word == "-=" => self.sign("an operator exchanged", id, "+="),
-            Form::Call => self.call(id, &kids),
+            Form::Call => self.call(id, &kids[1..]),
+            Form::Method => self.call(id, &kids),
             Form::If | Form::While => self.condition(id, kids[0]),
             Form::Match => self.arms(&kids[1..]),
             Form::Block => self.statements(id, &kids),
@@ -209,6 +210,9 @@ impl Maker<'_> {
                     .filter(|(_, t)| t.as_ref() == Some(&ty))
                     .map(|(n, _)| n.clone()),
             );
+        } else if let Some(variants) = self.all.enums.get(&ty) {
+            let prefix = &node.word[..node.word.len() - last(&node.word).len()];
+            others.extend(variants.iter().map(|n| format!("{prefix}{n}")));
         } else if let Some((_, module)) = self.all.constants.get(last(&node.word)) {
             let like = self
                 .all
@@ -267,8 +271,7 @@ impl Maker<'_> {
         }
     }
 
-    fn call(&mut self, id: usize, kids: &[usize]) {
-        let args = &kids[1..];
+    fn call(&mut self, id: usize, args: &[usize]) {
         for (i, a) in args.iter().enumerate() {
             for b in &args[i + 1..] {
                 if self.are_alike(*a, *b) {
@@ -377,6 +380,7 @@ impl Maker<'_> {
         let constants: &[&str] = match ty {
             "bool" => &["true", "false"],
             ty if is_whole(ty) => &["0", "1"],
+            ty if bare(ty) == "Option" => &["None"],
             _ => &[],
         };
         for value in constants {

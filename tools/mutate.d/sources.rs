@@ -1,6 +1,6 @@
 // The crates' sources: crates.txt, the files, and in them the functions, with what is known of signatures, structs and constants.
 
-use crate::tokens::{tokens, Kind, Token};
+use crate::tokens::{tokens, Token};
 use std::collections::BTreeMap;
 use std::fs;
 use std::path::{Path, PathBuf};
@@ -31,6 +31,10 @@ pub struct Sources {
     // by the last part of the name; crates may have several of one name
     pub signatures: BTreeMap<String, Vec<(Vec<String>, String)>>,
     pub structs: BTreeMap<String, Vec<(String, String)>>,
+    // the parameters of a generic struct
+    pub generics: BTreeMap<String, Vec<String>>,
+    // the variants that hold nothing
+    pub enums: BTreeMap<String, Vec<String>>,
     // the type and the module
     pub constants: BTreeMap<String, (String, String)>,
     // in the order of crates.txt, each with what it rests on
@@ -47,24 +51,35 @@ pub fn read(root: &Path) -> Result<Sources, String> {
         let mut paths = Vec::new();
         below(&base, &mut paths).map_err(|e| format!("{}: {e}", base.display()))?;
         paths.sort();
+        let mut files = Vec::new();
         for path in paths {
             let module = module_of(&krate, path.strip_prefix(&base).unwrap_or(&path));
             let text = fs::read_to_string(&path).map_err(|e| format!("{}: {e}", path.display()))?;
-            let shown = path
-                .strip_prefix(root)
-                .unwrap_or(&path)
-                .display()
-                .to_string();
             let tokens = tokens(&text);
-            all.files.push(Source {
-                path: shown,
-                text,
-                tokens,
-            });
-            items(&mut all, &krate, &module)?;
+            let path = path.strip_prefix(root).unwrap_or(&path);
+            let path = path.display().to_string();
+            files.push((module, Source { path, text, tokens }));
+        }
+        let homes = homes(&files);
+        for (module, source) in files {
+            all.files.push(source);
+            items(&mut all, &krate, &module, &homes)?;
         }
     }
     Ok(all)
+}
+
+// The module of each type.
+fn homes(files: &[(String, Source)]) -> BTreeMap<String, String> {
+    let mut found = BTreeMap::new();
+    for (module, source) in files {
+        for pair in source.tokens.windows(2) {
+            if matches!(pair[0].text.as_str(), "struct" | "enum") {
+                found.insert(pair[1].text.clone(), module.clone());
+            }
+        }
+    }
+    found
 }
 
 fn crates(root: &Path) -> Result<Vec<(String, Vec<String>)>, String> {
@@ -109,30 +124,65 @@ fn module_of(krate: &str, path: &Path) -> String {
 }
 
 // The items of the last file.
-fn items(all: &mut Sources, krate: &str, module: &str) -> Result<(), String> {
+fn items(
+    all: &mut Sources,
+    krate: &str,
+    module: &str,
+    homes: &BTreeMap<String, String>,
+) -> Result<(), String> {
     let file = all.files.len() - 1;
     let tokens = all.files[file].tokens.clone();
     let find = |from: usize, text: &str| (from..tokens.len()).find(|i| tokens[*i].text == text);
     let is_at = |at: usize, text: &str| tokens.get(at).is_some_and(|t| t.text == text);
-    // the type whose methods these are, and where they end
-    let mut holder = (String::new(), 0);
+    // the type or the trait whose methods these are, what `self` is there, and where they end
+    let mut holder = (String::new(), String::new(), 0);
     let mut at = 0;
     while at < tokens.len() {
         let name = tokens.get(at + 1).map_or("", |t| &t.text).to_string();
+        let after = past_generics(&tokens, at + 2);
         match tokens[at].text.as_str() {
-            "impl" if is_at(at + 2, "{") => {
-                holder = (format!("{module}::{name}"), closing(&tokens, at + 2));
+            "impl" => {
+                let head = past_generics(&tokens, at + 1);
+                let open = find(head, "{").unwrap_or(head);
+                let (place, own) = holder_of(&tokens[head..open], module, homes);
+                holder = (place, own, closing(&tokens, open));
+                at = open;
+            }
+            "trait" => {
+                let open = find(after, "{").unwrap_or(after);
+                let place = format!("{module}::{name}");
+                holder = (place, "Self".to_string(), closing(&tokens, open));
+                at = open;
             }
             "fn" => {
                 let bad = || format!("{module}: the function {name} is not understood");
-                let seen = signature(&tokens, at + 2).ok_or_else(bad)?;
-                let place = if at < holder.1 { &holder.0 } else { module };
+                let seen = signature(&tokens, after).ok_or_else(bad)?;
+                let is_held = at < holder.2;
+                let place = if is_held { &holder.0 } else { module };
                 at = seen.body.1;
-                add(all, krate, place, &name, Function { file, ..seen });
+                add(
+                    all,
+                    krate,
+                    (place, &holder.1),
+                    &name,
+                    Function { file, ..seen },
+                );
             }
-            "struct" if is_at(at + 2, "{") => {
-                let end = closing(&tokens, at + 2);
-                all.structs.insert(name, typed(&tokens[at + 3..end]));
+            "struct" if is_at(after, "{") => {
+                let end = closing(&tokens, after);
+                let params = split(&tokens[(at + 3).min(after)..after.max(at + 3) - 1]);
+                let params = params.iter().filter_map(|p| p.first());
+                let params = params.map(|t| t.text.clone()).collect();
+                all.generics.insert(name.clone(), params);
+                all.structs.insert(name, typed(&tokens[after + 1..end]));
+                at = end;
+            }
+            "enum" if is_at(after, "{") => {
+                let end = closing(&tokens, after);
+                let variants = split(&tokens[after + 1..end]);
+                let bare = variants.iter().filter(|v| v.len() == 1);
+                all.enums
+                    .insert(name, bare.map(|v| v[0].text.clone()).collect());
                 at = end;
             }
             "const" if is_at(at + 2, ":") => {
@@ -148,10 +198,74 @@ fn items(all: &mut Sources, krate: &str, module: &str) -> Result<(), String> {
     Ok(())
 }
 
-// A signature, and where it has a body the function.
-fn add(all: &mut Sources, krate: &str, place: &str, name: &str, mut seen: Function) {
-    if let Some(own) = seen.params.first_mut().filter(|p| p.0 == "self") {
-        own.1 = place.rsplit("::").next().unwrap_or("").to_string();
+// What stands before the methods' names, as the prover has it, and the type: MODULE::TYPE by the type's module, or of an impl of a trait MODULE::TYPETRAIT by its own.
+fn holder_of(head: &[Token], module: &str, homes: &BTreeMap<String, String>) -> (String, String) {
+    let end = head.iter().position(|t| t.text == "where");
+    let head = &head[..end.unwrap_or(head.len())];
+    match head.iter().position(|t| t.text == "for") {
+        Some(at) => {
+            let own = joined(&head[at + 1..]);
+            let name = format!(
+                "{}{}",
+                run_on(plain(&own)),
+                run_on(last(&joined(&head[..at])))
+            );
+            (format!("{module}::{name}"), own)
+        }
+        None => {
+            let own = joined(head);
+            let home = homes.get(plain(&own)).map_or(module, String::as_str);
+            (format!("{home}::{}", plain(&own)), own)
+        }
+    }
+}
+
+// A type without its module, and without its arguments.
+pub fn plain(ty: &str) -> &str {
+    last(ty.split('<').next().unwrap_or(ty))
+}
+
+// A path without what stands before its last name.
+fn last(path: &str) -> &str {
+    let end = path.find('<').unwrap_or(path.len());
+    path[..end].rfind("::").map_or(path, |at| &path[at + 2..])
+}
+
+// TryFrom<u32> as TryFromU32.
+fn run_on(words: &str) -> String {
+    let parts = words.split(|c: char| !c.is_alphanumeric() && c != '_');
+    let mut text = String::new();
+    for part in parts {
+        let (first, rest) = part.split_at(part.chars().next().map_or(0, char::len_utf8));
+        text += &(first.to_uppercase() + rest);
+    }
+    text
+}
+
+// The place after the generics that begin at a place, or that place where none do.
+pub fn past_generics(tokens: &[Token], open: usize) -> usize {
+    if !tokens.get(open).is_some_and(|t| t.text == "<") {
+        return open;
+    }
+    let mut depth = 0;
+    for (i, token) in tokens.iter().enumerate().skip(open) {
+        match token.text.as_str() {
+            "<" => depth += 1,
+            ">" => depth -= 1,
+            ">>" => depth -= 2,
+            _ => {}
+        }
+        if depth <= 0 {
+            return i + 1;
+        }
+    }
+    tokens.len()
+}
+
+// A signature, and where it has a body the function. The place is what stands before its name, and the type of its `self`.
+fn add(all: &mut Sources, krate: &str, (place, own): (&str, &str), name: &str, mut seen: Function) {
+    if let Some(first) = seen.params.first_mut().filter(|p| p.0 == "self") {
+        first.1 = own.to_string();
     }
     let types = seen.params.iter().map(|p| p.1.clone()).collect();
     let like = all.signatures.entry(name.to_string()).or_default();
@@ -179,13 +293,13 @@ fn signature(tokens: &[Token], open: usize) -> Option<Function> {
         let end = (at..tokens.len()).find(|i| {
             matches!(
                 tokens[*i].text.as_str(),
-                "{" | "requires" | "ensures" | "ghost"
+                "{" | "where" | "requires" | "ensures" | "ghost"
             ) || (tokens[*i].text == ";" && !tokens[at..*i].iter().any(|t| t.text == "["))
         })?;
         result = joined(&tokens[at + 1..end]);
         at = end;
     }
-    while tokens.get(at).is_some_and(|t| t.kind == Kind::Name) {
+    while !matches!(tokens.get(at)?.text.as_str(), "{" | ";") {
         at += 1;
     }
     let end = if tokens.get(at)?.text == "{" {
@@ -208,6 +322,9 @@ fn typed(tokens: &[Token]) -> Vec<(String, String)> {
     let mut pairs = Vec::new();
     for part in split(tokens) {
         let colon = part.iter().position(|t| t.text == ":");
+        if part.first().is_some_and(|t| t.text == "ghost") {
+            continue;
+        }
         if part.last().is_some_and(|t| t.text == "self") {
             pairs.push(("self".to_string(), String::new()));
         } else if let Some(at) = colon.filter(|at| *at > 0) {
@@ -224,6 +341,7 @@ fn split(tokens: &[Token]) -> Vec<&[Token]> {
         match token.text.as_str() {
             "(" | "[" | "{" | "<" => depth += 1,
             ")" | "]" | "}" | ">" => depth -= 1,
+            ">>" => depth -= 2,
             "," if depth == 0 => {
                 parts.push(&tokens[from..i]);
                 from = i + 1;

@@ -110,11 +110,15 @@ fn span(rest: &str, holds: impl Fn(char) -> bool) -> usize {
     rest.find(|c| !holds(c)).unwrap_or(rest.len())
 }
 
-// A string, a byte string or a byte.
+// A string, a byte string, a byte or a character. A quote that begins a lifetime has none after its name.
 fn text(rest: &str) -> Option<usize> {
     let open = if rest.starts_with('b') { 1 } else { 0 };
     let quote = rest[open..].chars().next()?;
-    if quote != '"' && (quote != '\'' || open == 0) {
+    if quote != '"' && quote != '\'' {
+        return None;
+    }
+    let is_character = |c: char| c == '\\' || rest[1 + c.len_utf8()..].starts_with('\'');
+    if quote == '\'' && open == 0 && !rest[1..].chars().next().is_some_and(is_character) {
         return None;
     }
     let mut is_escaped = false;

@@ -1,6 +1,6 @@
 // A function's body as a tree of expressions, each with its place in the text, its type where that is known, and the variables that it may name.
 
-use crate::sources::{closing, Function, Sources};
+use crate::sources::{closing, past_generics, Function, Sources};
 use crate::tokens::{Kind, Token};
 use crate::types;
 
@@ -176,7 +176,10 @@ impl Parser<'_> {
         if self.text() == "let" {
             return Ok((self.binding()?, false));
         }
-        let id = self.expression(true)?;
+        let id = match self.text() {
+            "if" | "match" | "while" | "loop" | "for" | "{" => self.postfix(true)?,
+            _ => self.expression(true)?,
+        };
         if self.takes(";") {
             return Ok((id, false));
         }
@@ -188,6 +191,7 @@ impl Parser<'_> {
         self.needs("let")?;
         self.takes("mut");
         let name = self.passed(&[":", "="]);
+        let is_pattern = !name.chars().all(|c| c.is_alphanumeric() || c == '_');
         let mut ty = None;
         if self.takes(":") {
             ty = Some(self.passed(&["="]));
@@ -201,7 +205,7 @@ impl Parser<'_> {
         let ty = ty.or_else(|| self.nodes[kids[0]].ty.clone());
         let id = self.add(Form::Let, start, &name, kids);
         // a pattern names nothing that is known
-        if name.chars().all(|c| c.is_alphanumeric() || c == '_') {
+        if !is_pattern {
             self.scope.push((name, ty));
         }
         Ok(id)
@@ -213,8 +217,8 @@ impl Parser<'_> {
         let mut depth = 0;
         while self.at < self.end && (depth > 0 || !ends.contains(&self.text())) {
             match self.text() {
-                "[" | "(" => depth += 1,
-                "]" | ")" => depth -= 1,
+                "[" | "(" | "{" => depth += 1,
+                "]" | ")" | "}" => depth -= 1,
                 _ => {}
             }
             text.push_str(self.text());
@@ -267,7 +271,7 @@ impl Parser<'_> {
             }
             let at = (self.start(), self.start() + sign.len());
             self.at += 1;
-            let is_open = sign == ".." && matches!(self.text(), "]" | "{" | ")");
+            let is_open = sign == ".." && matches!(self.text(), "]" | "{" | ")" | "," | ";");
             let mut kids = vec![left];
             if !is_open {
                 kids.push(self.binary(level, structs)?);
@@ -286,8 +290,12 @@ impl Parser<'_> {
         let start = self.start();
         let mut id = self.unary(structs)?;
         while self.takes("as") {
-            let ty = self.text().to_string();
+            let mut ty = self.text().to_string();
             self.at += 1;
+            while self.takes("::") {
+                ty = format!("{ty}::{}", self.text());
+                self.at += 1;
+            }
             id = self.add(Form::Cast, start, &ty, vec![id]);
         }
         Ok(id)
@@ -296,22 +304,22 @@ impl Parser<'_> {
     fn unary(&mut self, structs: bool) -> Parsed {
         let start = self.start();
         let sign = self.text().to_string();
-        if !matches!(sign.as_str(), "!" | "-" | "*" | "&" | "..") {
+        if !matches!(sign.as_str(), "!" | "-" | "*" | "&" | "&&" | ".." | "..=") {
             return self.postfix(structs);
         }
         let at = (start, start + sign.len());
         self.at += 1;
         self.takes("mut");
-        let kid = if sign == ".." {
+        let is_range = sign.starts_with("..");
+        if is_range && matches!(self.text(), "]" | ")" | "}" | ",") {
+            return Ok(self.add(Form::Other, start, &sign, Vec::new()));
+        }
+        let kid = if is_range {
             self.binary(2, structs)?
         } else {
             self.unary(structs)?
         };
-        let form = if sign == ".." {
-            Form::Other
-        } else {
-            Form::Unary
-        };
+        let form = if is_range { Form::Other } else { Form::Unary };
         let id = self.add(form, start, &sign, vec![kid]);
         self.nodes[id].sign = at;
         Ok(id)
@@ -319,9 +327,16 @@ impl Parser<'_> {
 
     fn postfix(&mut self, structs: bool) -> Parsed {
         let start = self.start();
+        // a block that is a statement is not called, nor an index taken of it
+        let is_block = matches!(self.text(), "if" | "match" | "while" | "loop" | "for" | "{");
         let mut id = self.primary(structs)?;
         loop {
-            if self.takes("(") {
+            if is_block && matches!(self.text(), "(" | "[") {
+                return Ok(id);
+            }
+            if self.takes("?") {
+                id = self.add(Form::Other, start, "?", vec![id]);
+            } else if self.takes("(") {
                 let mut kids = vec![id];
                 self.list(")", &mut kids)?;
                 id = self.add(Form::Call, start, "", kids);
@@ -333,6 +348,9 @@ impl Parser<'_> {
                 self.at += 1;
                 let word = self.text().to_string();
                 self.at += 1;
+                if self.text() == "::" {
+                    self.at = past_generics(self.tokens, self.at + 1);
+                }
                 let mut kids = vec![id];
                 let is_call = self.takes("(");
                 if is_call {
@@ -367,6 +385,7 @@ impl Parser<'_> {
             "while" | "loop" | "for" => return self.repeated(),
             "match" => return self.choice(),
             "{" => return self.block(),
+            "move" | "|" | "||" => return self.closure(),
             _ => {}
         }
         let word = self.text().to_string();
@@ -392,8 +411,17 @@ impl Parser<'_> {
         let mut word = self.text().to_string();
         self.at += 1;
         while self.takes("::") {
+            if self.text() == "<" {
+                self.at = past_generics(self.tokens, self.at);
+                continue;
+            }
             word = format!("{word}::{}", self.text());
             self.at += 1;
+        }
+        // what stands in a macro's brackets is no expression that is known
+        if self.text() == "!" && matches!(self.ahead(1), "(" | "[" | "{") {
+            self.at = closing(self.tokens, self.at + 1) + 1;
+            return Ok(self.add(Form::Other, start, &word, Vec::new()));
         }
         let is_type = word
             .rsplit("::")
@@ -409,6 +437,32 @@ impl Parser<'_> {
             self.takes(",");
         }
         Ok(self.add(Form::Struct, start, &word, kids))
+    }
+
+    // A closure, whose parameters are of no known type.
+    fn closure(&mut self) -> Parsed {
+        let start = self.start();
+        let outer = self.scope.len();
+        self.takes("move");
+        if !self.takes("||") {
+            self.needs("|")?;
+            while !self.takes("|") {
+                if self.kind() == Kind::Name {
+                    let name = self.text().to_string();
+                    self.scope.push((name, None));
+                }
+                self.at += 1;
+            }
+        }
+        if self.takes("->") {
+            self.passed(&["{"]);
+        }
+        while matches!(self.text(), "requires" | "ensures") {
+            self.at += 1;
+        }
+        let kid = self.expression(true)?;
+        self.scope.truncate(outer);
+        Ok(self.add(Form::Other, start, "|", vec![kid]))
     }
 
     fn field(&mut self) -> Parsed {
@@ -428,10 +482,7 @@ impl Parser<'_> {
     fn branch(&mut self) -> Parsed {
         let start = self.start();
         self.needs("if")?;
-        if self.takes("let") {
-            self.passed(&["="]);
-            self.needs("=")?;
-        }
+        let is_let = self.passes_let()?;
         let mut kids = vec![self.expression(false)?, self.block()?];
         if self.takes("else") {
             kids.push(if self.text() == "if" {
@@ -440,7 +491,18 @@ impl Parser<'_> {
                 self.block()?
             });
         }
-        Ok(self.add(Form::If, start, "", kids))
+        let form = if is_let { Form::Other } else { Form::If };
+        Ok(self.add(form, start, "if", kids))
+    }
+
+    // Whether a condition is a pattern, and past that.
+    fn passes_let(&mut self) -> Result<bool, String> {
+        let is_let = self.takes("let");
+        if is_let {
+            self.passed(&["="]);
+            self.needs("=")?;
+        }
+        Ok(is_let)
     }
 
     fn repeated(&mut self) -> Parsed {
@@ -449,19 +511,20 @@ impl Parser<'_> {
         self.at += 1;
         let mut kids = Vec::new();
         let outer = self.scope.len();
+        let mut is_let = false;
         if word == "for" {
-            let name = self.text().to_string();
-            self.at += 1;
+            let name = self.passed(&["in"]);
             self.needs("in")?;
             kids.push(self.expression(false)?);
             self.scope.push((name, None));
         } else if word == "while" {
+            is_let = self.passes_let()?;
             kids.push(self.expression(false)?);
         }
         kids.push(self.block()?);
         self.scope.truncate(outer);
         Ok(self.add(
-            if word == "while" {
+            if word == "while" && !is_let {
                 Form::While
             } else {
                 Form::Other

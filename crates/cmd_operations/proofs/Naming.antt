@@ -1,176 +1,82 @@
--- Laws of walking down a table of names: the end of a name, the bytes there, and the start of the next row. Assumes nothing.
-use Rattle.std.proofs.Common.{◌≡◌, ℕ, suc, ◌+◌, ◌-◌, ◌<◌, ◌≤◌, Bool, true, false, cond, not, ◌&&◌, T, eqb, List, [], ◌∷◌, ◌++◌, length, take, drop, sym, refl, ap, ◌∙◌, append_assoc, arith, eqb→eq, length-append, take_at, drop_at, le-leb}
-use lib.Dec.{eqb_refl}
-use Rattle.text_lines.specs.Offsets.{starts, ahead, offset_of, part_of}
-use Rattle.cmd_operations.specs.Naming.{Named, line_of, text_of, without, clean, same, row_in}
+-- A search through a table of names finds the row of a name. Assumes nothing.
+use Rattle.std.proofs.Common.{◌≡◌, ℕ, suc, ◌+◌, ◌<◌, ◌≤◌, Bool, true, false, cond, ltb, eqb, ◌&&◌, List, [], ◌∷◌, length, map, refl, sym, ap, ◌∙◌, arith, Option, Some, None}
+use Rattle.std.specs.Prelude.{option_map}
+use Rattle.std.specs.Cmp.Lexicographic.{pointwise}
+use Rattle.std.specs.List.{position_or_len, find, enumerate_from}
+use borrow.Author.Tests.{ltb-true, ltb-false}
+use Rattle.cmd_operations.specs.declared.table.Row.{Row}
+use Rattle.cmd_operations.specs.Naming.{Named, same, row_at, row_in}
 
--- a search finds no offset before its start
-pub found_after : (p s : List ℕ) (from : ℕ) → from ≤ length s → from ≤ offset_of p s from
-unfolding offset_of
-found_after p s from h = omega arith
-
--- ---- both parts of a test
-
-pub and_first : (a b : Bool) → T (a && b) → T a
-and_first true b h = tt
-and_first false b h = h
-
-pub and_second : (a b : Bool) → T (a && b) → T b
-and_second true b h = h
-and_second false b h = absurd h
-
-is_true : (b : Bool) → T b → b ≡ true
-is_true true h = refl
-is_true false h = absurd h
-
--- ---- the same bytes
-
-same_refl : (s : List ℕ) → same s s ≡ true
+pub same_pointwise : (s t : List ℕ) → pointwise eqb s t ≡ same s t
 unfolding same
-same_refl [] = refl
-same_refl (a ∷ s) = rw (is_true (eqb a a) (eqb_refl a)) (same_refl s)
+same_pointwise [] [] = refl
+same_pointwise [] (b ∷ t) = refl
+same_pointwise (a ∷ s) [] = refl
+same_pointwise (a ∷ s) (b ∷ t) = ap (λ (r : Bool). eqb a b && r) (same_pointwise s t)
 
-pub same_is : (s t : List ℕ) → s ≡ t → same s t ≡ true
-same_is s t e = rw (← e) (same_refl s)
+-- xs is a table, of which each element is a row
+module _ {A : Type 0} (row : A → Named) (s : List ℕ) where
+  abbrev pub number : Row → ℕ
+  number w = w.number
 
-tail_same : (a b : ℕ) (s t : List ℕ) → T (eqb a b) → s ≡ t → ◌≡◌ {A = List ℕ} (a ∷ s) (b ∷ t)
-tail_same a b s t h e = rw (eqb→eq a b h, e)
+  abbrev pub number_in : List A → ℕ → Option ℕ
+  number_in xs n = option_map number (row_in s (map row xs) n)
 
-same_eq : (s t : List ℕ) → T (same s t) → s ≡ t
-unfolding same
-same_eq [] [] h = refl
-same_eq [] (b ∷ t) h = absurd h
-same_eq (a ∷ s) [] h = absurd h
-same_eq (a ∷ s) (b ∷ t) h = tail_same a b s t (and_first (eqb a b) (same s t) h) (same_eq s t (and_second (eqb a b) (same s t) h))
+  -- how many elements come before the first with the name s
+  abbrev place : List A → ℕ
+  place xs = position_or_len (λ x. pointwise eqb s (row x).name) xs
 
-by_test : (b : Bool) → (T b → ⊥) → b ≡ false
-by_test true never = absurd (never tt)
-by_test false never = refl
+  -- where the name is among them, and where it is not
+  found_at : (b : Bool) (x : A) (xs : List A) (n : ℕ) → pointwise eqb s (row x).name ≡ b
+      → (place xs < length xs → number_in xs (n + 1) ≡ Some (n + 1 + place xs)) → place (x ∷ xs) < suc (length xs)
+      → option_map number (cond b (Some (row_at n (row x))) (row_in s (map row xs) (n + 1))) ≡ Some (n + place (x ∷ xs))
+  found_at true x xs n e i h = rw e (ap Some (omega arith))
+  found_at false x xs n e i h =
+      let h' = rw e at h in
+      rw e (i (omega arith) ∙ ap Some (omega arith))
 
-pub same_is_not : (s t : List ℕ) → (s ≡ t → ⊥) → same s t ≡ false
-same_is_not s t never = by_test (same s t) (λ h. never (same_eq s t h))
+  found : (xs : List A) (n : ℕ) → place xs < length xs → number_in xs n ≡ Some (n + place xs)
+  unfolding row_in
+  found [] n h = absurd (omega arith)
+  found (x ∷ xs) n h = found_at (same s (row x).name) x xs n (same_pointwise s (row x).name) (found xs (n + 1)) h
 
--- ---- the end of a name
+  missing_at : (b : Bool) (x : A) (xs : List A) (n : ℕ) → pointwise eqb s (row x).name ≡ b → (length xs ≤ place xs → number_in xs (n + 1) ≡ None)
+      → suc (length xs) ≤ place (x ∷ xs) → option_map number (cond b (Some (row_at n (row x))) (row_in s (map row xs) (n + 1))) ≡ None
+  missing_at true x xs n e i h = absurd (let h' = rw e at h in omega arith)
+  missing_at false x xs n e i h = let h' = rw e at h in i (omega arith)
 
-ahead_step : (b c : ℕ) (s : List ℕ) (t : Bool) → T (not t) → t ≡ eqb c b → ahead (b ∷ []) (c ∷ s) ≡ suc (ahead (b ∷ []) s)
-unfolding ahead starts
-ahead_step b c s false h e = rw (← e)
-ahead_step b c s true h e = absurd h
+  missing : (xs : List A) (n : ℕ) → length xs ≤ place xs → number_in xs n ≡ None
+  unfolding row_in
+  missing [] n h = refl
+  missing (x ∷ xs) n h = missing_at (same s (row x).name) x xs n (same_pointwise s (row x).name) (missing xs (n + 1)) h
 
-ahead_of : (b : ℕ) (u rest : List ℕ) → T (without b u) → ahead (b ∷ []) (u ++ (b ∷ rest)) ≡ length u
-unfolding without ahead starts
-ahead_of b [] rest h = rw (is_true (eqb b b) (eqb_refl b))
-ahead_of b (c ∷ u) rest h =
-    ahead_step b c (u ++ (b ∷ rest)) (eqb c b) (and_first (not (eqb c b)) (without b u) h) refl
-    ∙ ap suc (ahead_of b u rest (and_second (not (eqb c b)) (without b u) h))
+  -- `position` gives the number of the name
+  pub number_found : (xs : List A) (r : Option ℕ) → r ≡ cond (ltb (place xs) (length xs)) (Some (place xs)) None → r ≡ number_in xs 0
+  number_found xs r e = by_test (ltb (place xs) (length xs)) refl
+    where
+      by_test : (b : Bool) → ltb (place xs) (length xs) ≡ b → r ≡ number_in xs 0
+      by_test true h =
+          let z : 0 + place xs ≡ place xs = omega arith in
+          let e' = rw h at e in
+          e' ∙ ap Some (sym z) ∙ sym (found xs 0 (omega (arith, ltb-true (place xs) (length xs) h)))
+      by_test false h =
+          let e' = rw h at e in
+          e' ∙ sym (missing xs 0 (omega (arith, ltb-false (place xs) (length xs) h)))
 
-module _ (b : ℕ) (before u rest : List ℕ) (free : T (without b u)) where
-  pub ends_at : offset_of (b ∷ []) (before ++ (u ++ (b ∷ rest))) (length before) ≡ length before + length u
-  unfolding offset_of
-  ends_at =
-      rw (drop_at before (u ++ (b ∷ rest)) (length before) refl, ahead_of b u rest free)
-      (simp length-append (omega arith))
+  -- `find` gives the row
+  abbrev pub is_here : ℕ × A → Bool
+  is_here p = pointwise eqb s (row p.1).name
 
-  pub stands_there : part_of (before ++ (u ++ (b ∷ rest))) (length before) (length before + length u) ≡ u
-  unfolding part_of
-  stands_there =
-      let room : length before + length u ≤ length (before ++ (u ++ (b ∷ rest))) = simp length-append (omega arith) in
-      let most : length before + length u - length before ≡ length u = omega arith in
-      rw (le-leb _ _ room, most, drop_at before (u ++ (b ∷ rest)) (length before) refl) (take_at u (b ∷ rest) (length u) refl)
+  abbrev pub numbered : ℕ × A → Row
+  numbered p = row_at p.0 (row p.1)
 
--- ---- down the rows
+  row_found_at : (b : Bool) (x : A) (xs : List A) (n : ℕ) → pointwise eqb s (row x).name ≡ b
+      → option_map numbered (find is_here (enumerate_from (n + 1) xs)) ≡ row_in s (map row xs) (n + 1)
+      → option_map numbered (find is_here (enumerate_from n (x ∷ xs))) ≡ cond b (Some (row_at n (row x))) (row_in s (map row xs) (n + 1))
+  row_found_at true x xs n e i = rw e
+  row_found_at false x xs n e i = rw e i
 
--- n rows lie behind, and the next one is at the offset `at`
-pub record Walk (rs : List Named) (s table : List ℕ) (n at : ℕ) : Type 0 where
-  pub before : List ℕ
-  pub rest : List Named
-  pub tidy : T (clean rest)
-  pub split : table ≡ before ++ text_of rest
-  pub stands : at ≡ length before
-  pub goes_on : row_in s rs 0 0 ≡ row_in s rest n at
-
-pub at_first : (rs : List Named) (s table : List ℕ) → T (clean rs) → table ≡ text_of rs → Walk rs s table 0 0
-at_first rs s table tidy is = record { before = []; rest = rs; tidy = tidy; split = is; stands = refl; goes_on = refl }
-
-module _ (before : List ℕ) (r : Named) (rs : List Named) (tidy : T (clean (r ∷ rs))) where
-  row_tidy : T (without 32 r.name && eqb (length r.kinds) 7)
-  unfolding clean
-  row_tidy = and_first (without 32 r.name && eqb (length r.kinds) 7) (clean rs) tidy
-
-  name_tidy : T (without 32 r.name)
-  name_tidy = and_first (without 32 r.name) (eqb (length r.kinds) 7) row_tidy
-
-  rest_tidy : T (clean rs)
-  unfolding clean
-  rest_tidy = and_second (without 32 r.name && eqb (length r.kinds) 7) (clean rs) tidy
-
-  seven : length r.kinds ≡ 7
-  seven = eqb→eq (length r.kinds) 7 (and_second (without 32 r.name) (eqb (length r.kinds) 7) row_tidy)
-
-  name_first : before ++ text_of (r ∷ rs) ≡ before ++ (r.name ++ (32 ∷ ((r.kinds ++ (10 ∷ [])) ++ text_of rs)))
-  unfolding text_of
-  name_first = ap (λ (l : List ℕ). before ++ l) (append_assoc r.name (32 ∷ (r.kinds ++ (10 ∷ []))) (text_of rs))
-
-  name_ends : offset_of (32 ∷ []) (before ++ text_of (r ∷ rs)) (length before) ≡ length before + length r.name
-  name_ends = rw name_first (ends_at 32 before r.name ((r.kinds ++ (10 ∷ [])) ++ text_of rs) name_tidy)
-
-  name_stands : part_of (before ++ text_of (r ∷ rs)) (length before) (length before + length r.name) ≡ r.name
-  name_stands = rw name_first (stands_there 32 before r.name ((r.kinds ++ (10 ∷ [])) ++ text_of rs) name_tidy)
-
-  next_stands : length before + length r.name + 9 ≡ length (before ++ line_of r)
-  next_stands = simp (length-append, seven) (omega arith)
-
-  next_split : before ++ text_of (r ∷ rs) ≡ (before ++ line_of r) ++ text_of rs
-  unfolding text_of
-  next_split = sym (append_assoc before (line_of r) (text_of rs))
-
--- past the last row
-over : (s before : List ℕ) (rest : List Named) (n at : ℕ) → at ≡ length before → length (before ++ text_of rest) ≤ at
-    → record { number = n; kinds = at } ≡ row_in s rest n at
-unfolding row_in text_of
-over s before [] n at is h = refl
-over s before (r ∷ rs) n at is h = absurd (omega (arith, simp length-append at h))
-
--- at the row of the name
-module _ (s : List ℕ) (n at end : ℕ) where
-  found : (before : List ℕ) (rest : List Named) → T (clean rest) → at ≡ length before → at < length (before ++ text_of rest)
-      → end ≡ offset_of (32 ∷ []) (before ++ text_of rest) at → s ≡ part_of (before ++ text_of rest) at end
-      → record { number = n; kinds = end + 1 } ≡ row_in s rest n at
-  unfolding row_in text_of
-  found before [] tidy is more ends this = absurd (omega (arith, simp length-append at more))
-  found before (r ∷ rs) tidy is more ends this =
-      let where_to : end ≡ at + length r.name = cc (name_ends before r rs tidy) in
-      let named : s ≡ r.name = cc (name_stands before r rs tidy) in
-      rw (same_is s r.name named, where_to)
-
-  -- at another row
-  passed : (all : List Named) (before : List ℕ) (rest : List Named) → T (clean rest) → at ≡ length before → at < length (before ++ text_of rest)
-      → end ≡ offset_of (32 ∷ []) (before ++ text_of rest) at → (s ≡ part_of (before ++ text_of rest) at end → ⊥)
-      → row_in s all 0 0 ≡ row_in s rest n at → Walk all s (before ++ text_of rest) (n + 1) (end + 9)
-  unfolding row_in text_of
-  passed all before [] tidy is more ends other so_far = absurd (omega (arith, simp length-append at more))
-  passed all before (r ∷ rs) tidy is more ends other so_far =
-      let where_to : end ≡ at + length r.name = cc (name_ends before r rs tidy) in
-      let unlike : same s r.name ≡ false = same_is_not s r.name (λ e. other (cc (name_stands before r rs tidy))) in
-      record {
-        before = before ++ line_of r;
-        rest = rs;
-        tidy = rest_tidy before r rs tidy;
-        split = next_split before r rs tidy;
-        stands = rw (where_to, is) (next_stands before r rs tidy);
-        goes_on = so_far ∙ rw (unlike, where_to);
-      }
-
-module _ {rs : List Named} {s table : List ℕ} {n at : ℕ} (w : Walk rs s table n at) where
-  pub walk_over : length table ≤ at → record { number = n; kinds = at } ≡ row_in s rs 0 0
-  walk_over h = over s w.before w.rest n at w.stands (rw w.split at h) ∙ sym w.goes_on
-
-  pub walk_found : (end : ℕ) → at < length table → end ≡ offset_of (32 ∷ []) table at → s ≡ part_of table at end
-      → record { number = n; kinds = end + 1 } ≡ row_in s rs 0 0
-  walk_found end more ends this =
-      found s n at end w.before w.rest w.tidy w.stands (rw w.split at more) (rw w.split at ends) (rw w.split at this) ∙ sym w.goes_on
-
-  pub walk_on : (end : ℕ) → at < length table → end ≡ offset_of (32 ∷ []) table at → (s ≡ part_of table at end → ⊥) → Walk rs s table (n + 1) (end + 9)
-  walk_on end more ends other =
-      rw w.split
-      (passed s n at end rs w.before w.rest w.tidy w.stands (rw w.split at more) (rw w.split at ends) (rw w.split at other) w.goes_on)
+  pub row_found : (xs : List A) (n : ℕ) → option_map numbered (find is_here (enumerate_from n xs)) ≡ row_in s (map row xs) n
+  unfolding row_in
+  row_found [] n = refl
+  row_found (x ∷ xs) n = row_found_at (same s (row x).name) x xs n (same_pointwise s (row x).name) (row_found xs (n + 1))

@@ -1,5 +1,5 @@
 -- The operations by name: what each takes and gives, and the definition that answers it. Assumes nothing.
-use Rattle.std.specs.Prelude.{ℕ, ◌%◌, List, [], ◌∷◌, ℤ, pos, slice_index, slice_index_or}
+use Rattle.std.specs.Prelude.{ℕ, ◌%◌, cond, List, [], ◌∷◌, ℤ, pos, ◌==◌, map, take, drop, slice_index_or, Option, Some, None, option_map}
 use Prim.Native.String.{String}
 use Rattle.ieee.specs.Format.{b64, b32}
 use Rattle.ieee.specs.Flags.{Flags, flag_word}
@@ -15,10 +15,12 @@ use Rattle.ieee.specs.Rounded.{Rounded, sqrt_rounded, fma_rounded, scalbn_rounde
 use Rattle.ieee.specs.Scalbn.{scalbn_of, scalbn_flags}
 use Rattle.ieee.specs.Sqrt.{sqrt_of, sqrt_flags}
 use Rattle.ieee.specs.Whole.{trunc_of, trunc_flags, floor_of, floor_flags, ceil_of, ceil_flags}
-use Rattle.cmd_operations.specs.declared.line.Answers.{Answers}
+use Rattle.cmd_operations.specs.declared.answers.Answers.{Answers}
 use Rattle.cmd_operations.specs.declared.request.Operands.{Operands}
+use Rattle.cmd_operations.specs.declared.table.Kind.{Kind}
+use Rattle.cmd_operations.specs.declared.table.Kind.TheVariants.{Word64, Word32, Signed, Unsigned, Flags as FlagsKind, Text}
 use Rattle.cmd_operations.specs.declared.table.Row.{Row}
-use Rattle.cmd_operations.specs.Naming.{bytes_of, Named, text_of, row_in}
+use Rattle.cmd_operations.specs.Naming.{bytes_of, Named, row_in}
 
 -- answers by their index, flags by their bits; a signed number after a word, which is 0 where it has none before it
 abbrev pub three : ℕ → ℕ → ℕ → Answers
@@ -43,12 +45,30 @@ signed x n = record { x = x; y = 0; z = 0; n = n }
 abbrev pub low : ℕ → ℕ
 low x = x % 4294967296
 
+-- a kind by its letter, and nothing for a dash: W, w, N, U, F and T
+abbrev pub kind_of : ℕ → Option Kind
+kind_of c =
+    cond (c == 87) (Some Word64)
+    (cond (c == 119) (Some Word32)
+    (cond (c == 78) (Some Signed)
+    (cond (c == 85) (Some Unsigned)
+    (cond (c == 70) (Some FlagsKind)
+    (cond (c == 84) (Some Text) None)))))
+
+-- a name, with the kinds of three operands, a blank, and those of three answers
+abbrev pub named : String → String → Named
+named name kinds = record {
+  name = bytes_of name;
+  operands = map kind_of (take 3 (bytes_of kinds));
+  answers = map kind_of (drop 4 (bytes_of kinds));
+}
+
 pub record Operation : Type 0 where
   pub row : Named
   pub answers : Operands → Answers
 
 abbrev pub operation : String → String → (Operands → Answers) → Operation
-operation name kinds answers = record { row = record { name = bytes_of name; kinds = bytes_of kinds }; answers = answers }
+operation name kinds answers = record { row = named name kinds; answers = answers }
 
 -- in the order of their numbers; crates/cmd_operations/src/table.rt explains the kinds
 abbrev pub operations : List Operation
@@ -91,12 +111,8 @@ rows_of [] = []
 rows_of (o ∷ os) = o.row ∷ rows_of os
 
 -- the row of the operation that s names
-unfoldable pub row_of : List ℕ → Row
-row_of s = row_in s (rows_of operations) 0 0
-
--- the byte of the table at an offset; past its end, nothing
-unfoldable pub kind_at : ℕ → ℕ
-kind_at index = slice_index (text_of (rows_of operations)) index
+unfoldable pub row_of : List ℕ → Option Row
+row_of s = row_in s (rows_of operations) 0
 
 abbrev pub unnamed : Operation
 unnamed = operation "" "" (λ a. two 0 0)
@@ -107,10 +123,10 @@ answers_of number a = (slice_index_or operations number unnamed).answers a
 
 -- the attributes of rounding, by name and number as in docs/LINES.md
 abbrev pub attributes : List Named
-attributes = named "even" ∷ named "zero" ∷ named "down" ∷ named "up" ∷ named "away" ∷ []
+attributes = attribute "even" ∷ attribute "zero" ∷ attribute "down" ∷ attribute "up" ∷ attribute "away" ∷ []
   where
-    named : String → Named
-    named s = record { name = bytes_of s; kinds = bytes_of "--- ---" }
+    attribute : String → Named
+    attribute s = record { name = bytes_of s; operands = []; answers = [] }
 
-unfoldable pub attribute_of : List ℕ → ℕ
-attribute_of s = (row_in s attributes 0 0).number
+unfoldable pub attribute_of : List ℕ → Option ℕ
+attribute_of s = option_map (λ (r : Row). r.number) (row_in s attributes 0)

@@ -1,86 +1,109 @@
-// A complaint about a line, as a line to be written.
-use crate::line::{Line, with_count, with_names, with_text};
-use crate::text::Text;
+// What is wrong with a line.
+use crate::table::{Kind, Names};
+use std::error::Error;
+use std::fmt;
+use text_lines::Fault;
 
-// Why a line is not a request, as the number of a text, or FINE. For an operand: its number, from 1 on, the text of its fault, its length in
-// characters, and the kind expected.
-#[derive(Clone, Copy)]
-pub struct Complaint {
-    pub what: u8,
-    pub index: u64,
-    pub fault: u8,
-    pub size: u64,
-    pub kind: u8,
+// Why a line is not a request. An operand goes by its number, from 1 on.
+#[derive(Clone, Copy, Debug, PartialEq, Eq)]
+pub enum Complaint {
+    TooLong,
+    CarriageReturn,
+    BlankTooMany,
+    NoAttribute,
+    Unknown,
+    Attribute(Fault),
+    Missing {
+        operand: usize,
+        kind: Kind,
+    },
+    // After all `operands` of them there is one more.
+    TooMany {
+        operands: usize,
+    },
+    // A field of `size` characters.
+    Operand {
+        operand: usize,
+        kind: Kind,
+        fault: Fault,
+        size: usize,
+    },
 }
 
-pub const FINE: u8 = 255;
-
-pub fn complaint_of(what: u8) -> Complaint {
-    Complaint {
-        what: what,
-        index: 0,
-        fault: 0,
-        size: 0,
-        kind: b'-',
+impl fmt::Display for Complaint {
+    fn fmt<W: fmt::Write>(&self, f: &mut fmt::Formatter<W>) -> fmt::Result {
+        match *self {
+            Complaint::TooLong => f.write_str(
+                "the line is too long; expected a request of at most 124 characters",
+            ),
+            Complaint::CarriageReturn => f.write_str(
+                "a carriage return stands in the request; expected a line feed alone",
+            ),
+            Complaint::BlankTooMany => {
+                f.write_str("a blank too many; expected single blanks between fields")
+            }
+            Complaint::NoAttribute => {
+                f.write_str("the operation takes no attribute; expected its name alone")
+            }
+            Complaint::Unknown => {
+                write!(
+                    f,
+                    "unknown operation; expected one of{Names} (an attribute follows a dot)"
+                )
+            }
+            Complaint::Attribute(fault) => write_attribute(f, fault),
+            Complaint::Missing { operand, kind } => {
+                write!(f, "operand {operand} is missing; expected {kind}")
+            }
+            Complaint::TooMany { operands } => write_too_many(f, operands),
+            Complaint::Operand {
+                operand,
+                kind,
+                fault,
+                size,
+            } => {
+                write!(f, "operand {operand} ")?;
+                write_fault(f, fault, size)?;
+                write!(f, "; expected {kind}")
+            }
+        }
     }
 }
 
-// The start of every complaint.
-pub fn with_start(l: Line, number: u64) -> Line {
-    with_count(l, Text::ErrorLine as u8, number, Text::Colon as u8)
-}
+impl Error for Complaint {}
 
-fn kind_text(kind: u8) -> u8 {
-    match kind {
-        b'W' => Text::Hex16 as u8,
-        b'w' => Text::Hex8 as u8,
-        b'N' => Text::Integer as u8,
-        b'U' => Text::Natural as u8,
-        b'A' => Text::Attribute as u8,
-        _ => Text::AnyText as u8,
+// What has no digits, or other ones, was meant for a name.
+fn write_attribute<W: fmt::Write>(f: &mut fmt::Formatter<W>, fault: Fault) -> fmt::Result {
+    f.write_str("the attribute ")?;
+    match fault {
+        Fault::NoDigit => f.write_str("is empty")?,
+        Fault::WrongDigit => f.write_str("is unknown")?,
+        _ => write!(f, "{fault}")?,
     }
+    f.write_str("; expected even, zero, down, up, away or a decimal number from 0 to 4294967295")
 }
 
-// The end of a complaint: how the field is to be written.
-pub fn with_expected(l: Line, kind: u8) -> Line {
-    with_text(with_text(l, Text::Expected as u8), kind_text(kind))
-}
-
-// One text for 1, another for more.
-fn singular_or_plural(n: u64, one: u8, more: u8) -> u8 {
-    if n == 1 { one } else { more }
+fn write_too_many<W: fmt::Write>(f: &mut fmt::Formatter<W>, operands: usize) -> fmt::Result {
+    let number = operands.wrapping_add(1);
+    write!(
+        f,
+        "operand {number} is one too many; expected {operands} operand"
+    )?;
+    f.write_str(if operands == 1 { "" } else { "s" })
 }
 
 // The fault of a field of `size` characters.
-pub fn with_fault(l: Line, fault: u8, size: u64) -> Line {
-    if fault == Text::Has as u8 {
-        let characters = singular_or_plural(size, Text::Character as u8, Text::Characters as u8);
-        return with_count(l, fault, size, characters);
+pub fn write_fault<W: fmt::Write>(
+    f: &mut fmt::Formatter<W>,
+    fault: Fault,
+    size: usize,
+) -> fmt::Result {
+    match fault {
+        Fault::WrongLength => write!(
+            f,
+            "has {size} character{}",
+            if size == 1 { "" } else { "s" }
+        ),
+        _ => write!(f, "{fault}"),
     }
-    with_text(l, fault)
-}
-
-fn with_operand(l: Line, c: Complaint) -> Line {
-    let m = with_count(l, Text::Operand as u8, c.index, Text::Blank as u8);
-    if c.what == Text::TooMany as u8 {
-        let count = std::num::wrapping_sub_u64(c.index, 1);
-        let operands = singular_or_plural(count, Text::OneOperand as u8, Text::Operands as u8);
-        return with_count(m, c.what, count, operands);
-    }
-    with_expected(with_fault(m, c.fault, c.size), c.kind)
-}
-
-// The complaint about a line that is not a request.
-pub fn with_complaint(l: Line, c: Complaint) -> Line {
-    if c.index > 0 {
-        return with_operand(l, c);
-    }
-    let m = with_text(l, c.what);
-    if c.what == Text::Unknown as u8 {
-        return with_text(with_names(m), Text::FollowsDot as u8);
-    }
-    if c.what == Text::TheAttribute as u8 {
-        return with_expected(with_fault(m, c.fault, c.size), c.kind);
-    }
-    m
 }

@@ -1,6 +1,6 @@
 // The operations by name, requests read, and answers and complaints as lines to be written.
 //
-// To add an operation: its row in `TABLE` (table.rt); the same row, with the definition that answers it, in specs/Table.antt; its call in `answer_of` or,
+// To add an operation: its row in `OPERATIONS` (table.rt); the same row, with the definition that answers it, in specs/Table.antt; its call in `answer_of` or,
 // under an attribute, `answer_under` (crates/pk/src/call.rt); and its line in the list below, which `./pk --help` prints.
 //
 //   floor64 X           floor64 c004000000000000                      the greatest whole number not above X
@@ -36,8 +36,7 @@
 //   scalbn32.A X N      scalbn32.1 3f800000 128
 #![tactic(auto)]
 
+pub mod answers;
 pub mod complaint;
-pub mod line;
 pub mod request;
 pub mod table;
-pub mod text;

@@ -3,15 +3,12 @@ ghost use Rattle.std.specs.Prelude.{◌≡◌, ◌+◌, min};
 ghost use Rattle.cmd_operations.specs.Request.{name_of};
 ghost use Rattle.cmd_operations.specs.Table.{row_of};
 
-use crate::complaint::{Complaint, FINE, complaint_of};
-use crate::table::{Row, attribute_of, is_named, operand_kind, row_of};
-use crate::text::Text;
-use text_lines::{
-    Fault, Field, Signed, find, has_blank_too_many, part, read_signed, read_unsigned, read_word,
-};
+use crate::complaint::Complaint;
+use crate::table::{Kind, Row, attribute_of, row_of};
+use text_lines::{Fault, find, has_blank_too_many, part, read_signed, read_unsigned, read_word};
 
 // The operands of a request: words, numbers and the length of a text by their index; the signed number and the attribute, if any.
-#[derive(Clone, Copy)]
+#[derive(Clone, Copy, Debug, Default, PartialEq, Eq)]
 pub struct Operands {
     pub x: u64,
     pub y: u64,
@@ -20,195 +17,91 @@ pub struct Operands {
     pub attribute: u64,
 }
 
-// The request of a line, where its complaint is `FINE`.
+// The row of the operation that a line names, and its operands, or why the line is not a request. The row stands beside the two: `read_request` settles it where
+// there is a complaint too.
 #[derive(Clone, Copy)]
 pub struct Request {
-    pub row: Row,
-    pub operands: Operands,
-    pub complaint: Complaint,
+    pub row: Option<Row>,
+    pub operands: Result<Operands, Complaint>,
 }
 
-// A field read: its value or signed number, or its fault.
+// The value of a field.
 #[derive(Clone, Copy)]
-struct Taken {
-    value: u64,
-    n: i32,
-    fault: u8,
+enum Value {
+    Number(u64),
+    Signed(i32),
 }
 
-fn with_value(value: u64, n: i32) -> Taken {
-    Taken {
-        value: value,
-        n: n,
-        fault: FINE,
-    }
-}
-
-fn with_fault(fault: Fault) -> Taken {
-    let text = match fault {
-        Fault::WrongLength => Text::Has as u8,
-        Fault::WrongDigit => Text::WrongDigit as u8,
-        Fault::NoDigit => Text::NoDigits as u8,
-        Fault::LeadingZero => Text::LeadingZero as u8,
-        Fault::MinusZero => Text::MinusZero as u8,
-        Fault::OutOfRange => Text::OutOfRange as u8,
-    };
-    Taken {
-        value: 0,
-        n: 0,
-        fault: text,
+impl Operands {
+    // Takes the value of the operand at an index, from 0 on.
+    fn set(&mut self, index: usize, value: Value) {
+        match value {
+            Value::Signed(n) => self.n = n,
+            Value::Number(number) => match index {
+                0 => self.x = number,
+                1 => self.y = number,
+                _ => self.z = number,
+            },
+        }
     }
 }
 
-fn from_field(f: Field) -> Taken {
-    match f {
-        Field::Value(v) => with_value(v, 0),
-        Field::Not(e) => with_fault(e),
+// A name or a number.
+fn read_attribute(f: &[u8]) -> Result<u64, Fault> {
+    match attribute_of(f) {
+        Some(number) => Ok(number as u64),
+        None => read_unsigned(f),
     }
-}
-
-fn from_signed(f: Signed) -> Taken {
-    match f {
-        Signed::Integer(m) => with_value(0, m),
-        Signed::NoInteger(e) => with_fault(e),
-    }
-}
-
-// A name or a number. What has no digits, or other ones, was meant for a name.
-fn read_attribute(f: &[u8]) -> Taken {
-    let number = attribute_of(f);
-    if number < 5 {
-        return with_value(number as u64, 0);
-    }
-    let mut t = from_field(read_unsigned(f));
-    if t.fault == Text::NoDigits as u8 {
-        t.fault = Text::Empty as u8;
-    }
-    if t.fault == Text::WrongDigit as u8 {
-        t.fault = Text::NotKnown as u8;
-    }
-    t
 }
 
 // A text may be anything; its length is its value.
-fn read_field(f: &[u8], kind: u8) -> Taken {
+fn read_field(f: &[u8], kind: Kind) -> Result<Value, Fault> {
     match kind {
-        b'W' => from_field(read_word(f, 16)),
-        b'w' => from_field(read_word(f, 8)),
-        b'N' => from_signed(read_signed(f)),
-        b'U' => from_field(read_unsigned(f)),
-        _ => with_value(f.len() as u64, 0),
+        Kind::Word64 => read_word(f, 16).map(Value::Number),
+        Kind::Word32 => read_word(f, 8).map(Value::Number),
+        Kind::Signed => read_signed(f).map(Value::Signed),
+        Kind::Unsigned => read_unsigned(f).map(Value::Number),
+        Kind::Flags | Kind::Text => Ok(Value::Number(f.len() as u64)),
     }
-}
-
-fn new_request(row: Row, what: u8) -> Request
-    ensures { result.row ≡ row }
-{
-    Request {
-        row: row,
-        operands: Operands {
-            x: 0,
-            y: 0,
-            z: 0,
-            n: 0,
-            attribute: 0,
-        },
-        complaint: complaint_of(what),
-    }
-}
-
-fn complain(mut r: Request, what: u8, index: usize, kind: u8) -> Request
-    ensures { result.row ≡ r.row }
-{
-    let mut c = complaint_of(what);
-    c.index = std::num::wrapping_add_u64(index as u64, 1);
-    c.fault = what;
-    c.kind = kind;
-    r.complaint = c;
-    r
-}
-
-// The request with one more operand, or with the operand's fault.
-fn with_operand(mut r: Request, t: Taken, kind: u8, index: usize, size: usize) -> Request
-    ensures { result.row ≡ r.row }
-{
-    if t.fault != FINE {
-        let mut bad = complain(r, t.fault, index, kind);
-        bad.complaint.size = size as u64;
-        return bad;
-    }
-    let mut a = r.operands;
-    match index {
-        0 => {
-            a.x = t.value;
-        }
-        1 => {
-            a.y = t.value;
-        }
-        _ => {
-            a.z = t.value;
-        }
-    }
-    if kind == b'N' {
-        a.n = t.n;
-    }
-    r.operands = a;
-    r
 }
 
 // The end of the operand that begins at the offset `begin`.
-fn end_of(s: &[u8], begin: usize, kind: u8) -> usize {
-    if kind == b'T' {
-        return s.len();
+fn end_of(s: &[u8], begin: usize, kind: Kind) -> usize {
+    match kind {
+        Kind::Text => s.len(),
+        _ => find(s, begin, b' '),
     }
-    find(s, begin, b' ')
 }
 
 // Reads the operands, each after a blank, from the end of the name.
-fn read_operands(s: &[u8], first: Request, from: usize) -> Request
-    ensures { result.row ≡ first.row }
-{
-    let mut r = first;
+fn read_operands(s: &[u8], row: Row, from: usize) -> Result<Operands, Complaint> {
+    let mut operands = Operands::default();
     let mut at = from;
-    let mut index = 0;
-    while index < 4 {
-        let kind = operand_kind(r.row, index);
+    for (index, kind) in row.operands.iter().flatten().enumerate() {
+        let operand = index.wrapping_add(1);
         if at >= s.len() {
-            if kind == b'-' {
-                return r;
-            }
-            return complain(r, Text::Missing as u8, index, kind);
-        }
-        if kind == b'-' {
-            return complain(r, Text::TooMany as u8, index, kind);
+            return Err(Complaint::Missing {
+                operand,
+                kind: *kind,
+            });
         }
         let begin = at + 1;
-        at = end_of(s, begin, kind);
-        let f = part(s, begin, at);
-        r = with_operand(r, read_field(f, kind), kind, index, f.len());
-        if r.complaint.what != FINE {
-            return r;
-        }
-        index += 1;
+        at = end_of(s, begin, *kind);
+        let field = part(s, begin, at);
+        let size = field.len();
+        let value = read_field(field, *kind).map_err(|fault| Complaint::Operand {
+            operand,
+            kind: *kind,
+            fault,
+            size,
+        })?;
+        operands.set(index, value);
     }
-    r
-}
-
-// Reads the attribute after the dot that ends a name.
-fn with_attribute(mut r: Request, f: &[u8]) -> Request
-    ensures { result.row ≡ r.row }
-{
-    let t = read_attribute(f);
-    if t.fault != FINE {
-        let mut c = complaint_of(Text::TheAttribute as u8);
-        c.fault = t.fault;
-        c.size = f.len() as u64;
-        c.kind = b'A';
-        r.complaint = c;
-        return r;
+    if at < s.len() {
+        let operands = row.operands.iter().flatten().count();
+        return Err(Complaint::TooMany { operands });
     }
-    r.operands.attribute = t.value;
-    r
+    Ok(operands)
 }
 
 // The end of the name: after the first dot, if there is one before `end`.
@@ -218,50 +111,55 @@ fn name_end(dot: usize, end: usize) -> usize
     if dot < end { dot + 1 } else { end }
 }
 
-// The first fault of the fields in s, before their values are read. s ends before a text.
-fn flaw_of(s: &[u8], row: Row) -> u8 {
-    if find(s, 0, b'\r') < s.len() {
-        return Text::CarriageReturn as u8;
+// The row, unless the fields in s have a fault that shows before their values are read. s ends before a text.
+fn check_fields(s: &[u8], row: Option<Row>) -> Result<Row, Complaint> {
+    if s.contains(&b'\r') {
+        return Err(Complaint::CarriageReturn);
     }
     if has_blank_too_many(s) {
-        return Text::BlankTooMany as u8;
+        return Err(Complaint::BlankTooMany);
     }
-    if is_named(row) {
-        return FINE;
+    match row {
+        Some(row) => Ok(row),
+        // Without the dot it may be a name.
+        None if row_of(part(s, 0, find(s, 0, b'.'))).is_some() => Err(Complaint::NoAttribute),
+        None => Err(Complaint::Unknown),
     }
-    // Without the dot it may be a name.
-    if is_named(row_of(part(s, 0, find(s, 0, b'.')))) {
-        return Text::NoAttribute as u8;
-    }
-    Text::Unknown as u8
 }
 
 // The end of the fields: a text is not a field, and runs to the end.
-fn fields_end(s: &[u8], row: Row, end: usize) -> usize {
-    if operand_kind(row, 0) == b'T' {
-        return end;
+fn fields_end(s: &[u8], row: Option<Row>, end: usize) -> usize {
+    match row.and_then(|row| row.operands[0]) {
+        Some(Kind::Text) => end,
+        _ => s.len(),
     }
-    s.len()
+}
+
+// Reads the fields after the name, which ends at `from`: the attribute, from there up to `end`, and the operands.
+fn read_fields(s: &[u8], row: Option<Row>, dot: usize, end: usize) -> Result<Operands, Complaint> {
+    let row = check_fields(part(s, 0, fields_end(s, row, end)), row)?;
+    let attribute = if dot < end {
+        read_attribute(part(s, dot + 1, end)).map_err(Complaint::Attribute)?
+    } else {
+        0
+    };
+    let operands = read_operands(s, row, end)?;
+    Ok(Operands {
+        attribute,
+        ..operands
+    })
 }
 
 // Reads the request in s.
+#[tactic(auto, unfolding(crate::specs::Request::name_of))]
 pub fn read_request(s: &[u8]) -> Request
     ensures { result.row ≡ row_of (name_of s.now) }
 {
     let end = find(s, 0, b' ');
     let dot = find(s, 0, b'.');
-    let from = name_end(dot, end);
-    let row = row_of(part(s, 0, from));
-    let flaw = flaw_of(part(s, 0, fields_end(s, row, end)), row);
-    let mut r = new_request(row, flaw);
-    if flaw != FINE {
-        return r;
+    let row = row_of(part(s, 0, name_end(dot, end)));
+    Request {
+        row,
+        operands: read_fields(s, row, dot, end),
     }
-    if dot < end {
-        r = with_attribute(r, part(s, from, end));
-    }
-    if r.complaint.what != FINE {
-        return r;
-    }
-    read_operands(s, r, end)
 }

@@ -1,150 +1,165 @@
 // The table of the operations: their names, and the kinds of their operands and answers.
-ghost use Rattle.std.specs.Prelude.{◌≡◌, ◌≤◌, T, List, length};
-ghost use Rattle.cmd_operations.specs.Naming.{Named, clean, text_of, row_in};
-ghost use Rattle.cmd_operations.specs.Table.{row_of, kind_at, attribute_of};
+ghost use Rattle.std.specs.Prelude.{◌≡◌, map};
+ghost use Rattle.cmd_operations.specs.Naming.{as_named, row_in};
+ghost use Rattle.cmd_operations.specs.Table.{row_of, attribute_of};
 
-use text_lines::{find, part, write_bytes};
+use std::fmt;
 
-const SIZE: usize = 499;
+// The kinds of operands and answers.
+#[derive(Clone, Copy, Debug, PartialEq, Eq)]
+pub enum Kind {
+    Word64,
+    Word32,
+    Signed,
+    Unsigned,
+    Flags,
+    // Anything up to the end of the line, as the only operand.
+    Text,
+}
 
-// A row for each operation: its name, of any length, the kinds of up to three operands and of up to three answers. A name that ends in a dot is followed
-// by an attribute. An operation's number is that of its row, from 0 on.
-//     W  a word of 64 bits    N  a signed number       T  a text, as the only operand
-//     w  a word of 32 bits    U  an unsigned number    F  flags    -  nothing
-const TABLE: [u8; SIZE] = *b"floor64 W-- WF-
-floor32 w-- wF-
-trunc64 W-- WF-
-trunc32 w-- wF-
-scalbn64 WN- WF-
-scalbn32 wN- wF-
-fmod64 WW- W--
-fmod32 ww- w--
-remquo64 WW- WN-
-reduce64 WUW UW-
-reduce32 wUw Uw-
-sqrt64 W-- WF-
-sqrt32 w-- wF-
-fma64 WWW WF-
-fma32 www wF-
-ceil64 W-- WF-
-ceil32 w-- wF-
-modf64 W-- WW-
-modf32 w-- ww-
-frexp64 W-- WN-
-frexp32 w-- wN-
-ilogb64 W-- N--
-ilogb32 w-- N--
-nextafter64 WW- W--
-nextafter32 ww- w--
-sqrt64. W-- UWF
-sqrt32. w-- UwF
-fma64. WWW UWF
-fma32. www UwF
-scalbn64. WN- UWF
-scalbn32. wN- UwF
-";
+// How a field of that kind is to be written.
+impl fmt::Display for Kind {
+    fn fmt<W: fmt::Write>(&self, f: &mut fmt::Formatter<W>) -> fmt::Result {
+        f.write_str(match self {
+            Kind::Word64 => "16 lower-case hex digits",
+            Kind::Word32 => "8 lower-case hex digits",
+            Kind::Signed => "a decimal number from -2147483648 to 2147483647",
+            Kind::Unsigned => "a decimal number from 0 to 4294967295",
+            Kind::Flags | Kind::Text => "a text",
+        })
+    }
+}
 
-// The attributes of rounding by name, in the order of their numbers.
-const ATTRIBUTES: [u8; 63] = *b"even --- ---
-zero --- ---
-down --- ---
-up --- ---
-away --- ---
-";
+// An operation: its name, and the kinds of up to three operands and of up to three answers, of which `row_at` (specs/Table.antt) has three. A name that ends in a dot
+// is followed by an attribute.
+#[derive(Clone, Copy)]
+pub struct Operation {
+    pub name: &'static str,
+    pub operands: [Option<Kind>; 3],
+    pub answers: [Option<Kind>; 3],
+}
 
-// From the end of a name to the next row: a blank, the kinds with a blank between them, and a line feed.
-const STEP: usize = 9;
+// A kind by the letter that it has in the table.
+macro_rules! kind {
+    (W) => {
+        Some(Kind::Word64)
+    };
+    (w) => {
+        Some(Kind::Word32)
+    };
+    (N) => {
+        Some(Kind::Signed)
+    };
+    (U) => {
+        Some(Kind::Unsigned)
+    };
+    (F) => {
+        Some(Kind::Flags)
+    };
+    (T) => {
+        Some(Kind::Text)
+    };
+    (-) => {
+        None
+    };
+}
 
-// The number of a row, and the offset of its kinds in the table. An unknown name has the row past the last.
+// The rows of a table: the name, the kinds of the operands, and those of the answers.
+macro_rules! operations {
+    ($($name:literal ($($operand:tt)*) ($($answer:tt)*);)*) => {
+        [$(Operation {
+            name: $name,
+            operands: [$(kind!($operand)),*],
+            answers: [$(kind!($answer)),*],
+        }),*]
+    };
+}
+
+// An operation's number is that of its row, from 0 on.
+const OPERATIONS: [Operation; 31] = operations! {
+    "floor64" (W - -) (W F -);
+    "floor32" (w - -) (w F -);
+    "trunc64" (W - -) (W F -);
+    "trunc32" (w - -) (w F -);
+    "scalbn64" (W N -) (W F -);
+    "scalbn32" (w N -) (w F -);
+    "fmod64" (W W -) (W - -);
+    "fmod32" (w w -) (w - -);
+    "remquo64" (W W -) (W N -);
+    "reduce64" (W U W) (U W -);
+    "reduce32" (w U w) (U w -);
+    "sqrt64" (W - -) (W F -);
+    "sqrt32" (w - -) (w F -);
+    "fma64" (W W W) (W F -);
+    "fma32" (w w w) (w F -);
+    "ceil64" (W - -) (W F -);
+    "ceil32" (w - -) (w F -);
+    "modf64" (W - -) (W W -);
+    "modf32" (w - -) (w w -);
+    "frexp64" (W - -) (W N -);
+    "frexp32" (w - -) (w N -);
+    "ilogb64" (W - -) (N - -);
+    "ilogb32" (w - -) (N - -);
+    "nextafter64" (W W -) (W - -);
+    "nextafter32" (w w -) (w - -);
+    "sqrt64." (W - -) (U W F);
+    "sqrt32." (w - -) (U w F);
+    "fma64." (W W W) (U W F);
+    "fma32." (w w w) (U w F);
+    "scalbn64." (W N -) (U W F);
+    "scalbn32." (w N -) (U w F);
+};
+
+// The attributes of rounding, in the order of their numbers.
+const ATTRIBUTES: [&str; 5] = ["even", "zero", "down", "up", "away"];
+
+// The number of an operation, and the kinds of its operands and answers.
 #[derive(Clone, Copy)]
 pub struct Row {
     pub number: usize,
-    pub kinds: usize,
+    pub operands: [Option<Kind>; 3],
+    pub answers: [Option<Kind>; 3],
 }
 
-// The row of the name s in a table.
-fn find_row(table: &[u8], s: &[u8]) -> Row
-    requires { length table.now ≤ 65536 }
-    ensures { (rs : List Named) → T (clean rs) → table.now ≡ text_of rs → result ≡ row_in s.now rs 0 0 }
+// The row of the name s among the operations.
+fn find_row(operations: &[Operation], s: &[u8]) -> Option<Row>
+    ensures { result ≡ row_in s.now (map as_named operations.now) 0 }
 {
-    let mut number = 0;
-    let mut at = 0;
-    while at < table.len() {
-        let end = find(table, at, b' ');
-        if check::same(s, part(table, at, end)) {
-            return Row {
-                number: number,
-                kinds: end + 1,
-            };
-        }
-        at = end + STEP;
-        number += 1;
-    }
-    Row {
-        number: number,
-        kinds: at,
-    }
+    let (number, operation) = operations
+        .iter()
+        .enumerate()
+        .find(|(_, operation)| s == operation.name.as_bytes())?;
+    Some(Row {
+        number,
+        operands: operation.operands,
+        answers: operation.answers,
+    })
 }
 
 // The row of the operation that s names.
-pub fn row_of(s: &[u8]) -> Row
+pub fn row_of(s: &[u8]) -> Option<Row>
     ensures { result ≡ row_of s.now }
 {
-    let table = TABLE;
-    find_row(&table, s)
+    find_row(&OPERATIONS, s)
 }
 
-// The number of the attribute that s names, or 5.
-pub fn attribute_of(s: &[u8]) -> usize
+// The number of the attribute that s names.
+pub fn attribute_of(s: &[u8]) -> Option<usize>
     ensures { result ≡ attribute_of s.now }
 {
-    let table = ATTRIBUTES;
-    find_row(&table, s).number
+    ATTRIBUTES.iter().position(|name| s == name.as_bytes())
 }
 
-pub fn is_named(row: Row) -> bool {
-    row.kinds < SIZE
-}
+// All operations, in the order of their numbers.
+pub struct Names;
 
-// The kind of the operand at an index, from 0 on.
-pub fn operand_kind(row: Row, index: usize) -> u8 {
-    if index < 3 {
-        return kind_at(std::num::wrapping_add_usize(row.kinds, index));
+// The names, each after a blank.
+impl fmt::Display for Names {
+    fn fmt<W: fmt::Write>(&self, f: &mut fmt::Formatter<W>) -> fmt::Result {
+        for operation in &OPERATIONS {
+            f.write_str(" ")?;
+            f.write_str(operation.name)?;
+        }
+        Ok(())
     }
-    b'-'
-}
-
-// The kind of the answer at an index, from 0 on.
-pub fn answer_kind(row: Row, index: usize) -> u8 {
-    if index < 3 {
-        return kind_at(std::num::wrapping_add_usize(
-            row.kinds,
-            std::num::wrapping_add_usize(index, 4),
-        ));
-    }
-    b'-'
-}
-
-// The byte of the table at an offset.
-fn kind_at(index: usize) -> u8
-    ensures { result ≡ kind_at index }
-{
-    if index < SIZE {
-        return TABLE[index];
-    }
-    0
-}
-
-// Writes the names of all operations, each after a blank.
-pub fn write_names(out: &mut [u8], at: usize) -> usize {
-    let table = TABLE;
-    let mut end = at;
-    let mut from = 0;
-    while from < SIZE {
-        let to = find(&table, from, b' ');
-        end = write_bytes(out, end, b" ");
-        end = write_bytes(out, end, part(&table, from, to));
-        from = to + STEP;
-    }
-    end
 }

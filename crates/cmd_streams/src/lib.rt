@@ -1,11 +1,15 @@
 // Standard input and output of the programs, messages where they fail, and the verdict at the end.
 #![tactic(auto)]
 
+ghost use Rattle.std.specs.Prelude.{◌≡◌, ◌+◌, ◌≤◌};
+
+pub mod output;
+
+use output::Output;
 use std::fs::OpenOptions;
 use std::io::{Read, Write};
 use std::rt::{Files, Stderr, Stdin, Stdout};
 use std::{fs, io};
-use text_lines::Field;
 
 // The descriptor that the operation's number is read from. It is opened by its name, and where it is closed there is no file of that name.
 const ORDER: &str = "/dev/fd/5";
@@ -13,120 +17,124 @@ const ORDER: &str = "/dev/fd/5";
 // The descriptor that the number of bad lines is written to. Without that number the run did not finish.
 const VERDICT: &str = "/dev/fd/3";
 
-#[derive(Clone, Copy)]
+#[derive(Clone, Copy, Debug, PartialEq, Eq)]
+pub enum State {
+    // There is more to read.
+    Open,
+    // The input ended.
+    Ended,
+    // Reading or writing failed.
+    Broken,
+}
+
+#[derive(Drop)]
 pub struct Streams {
     stdin: Stdin,
     stdout: Stdout,
     stderr: Stderr,
-    // The bytes of output not yet written.
-    pub used: usize,
-    // Whether there is more to read.
-    pub is_open: bool,
-    // Whether reading or writing failed.
-    pub is_broken: bool,
+    // The output that is not yet written.
+    pub output: Output<65536>,
+    pub state: State,
 }
 
-// The result of one read: the number of bytes, 0 where the input ended or could not be read.
-#[derive(Clone, Copy)]
-pub struct Taken {
-    pub streams: Streams,
-    pub count: usize,
-}
-
-#[derive(Clone, Copy)]
-pub enum Asked {
-    Number(u32),
-    Nothing,
-}
-
-pub fn open_streams(stdin: Stdin, stdout: Stdout, stderr: Stderr) -> Streams {
-    Streams {
-        stdin,
-        stdout,
-        stderr,
-        used: 0,
-        is_open: true,
-        is_broken: false,
-    }
-}
-
-pub fn with_failure(mut s: Streams) -> Streams {
-    s.is_open = false;
-    s.is_broken = true;
-    s
-}
-
-// Writes a message to standard error. One that cannot be written is lost: there is nowhere to say so.
-pub fn tell(mut s: Streams, message: &[u8]) {
-    let _ = s.stderr.write_all(message);
-}
-
-// Writes out the pending output.
-pub fn flush(mut s: Streams, out: &[u8; 65536]) -> Streams {
-    let used = s.used;
-    s.used = 0;
-    if s.is_broken {
-        return s;
-    }
-    match s.stdout.write_all(text_lines::part(out, 0, used)) {
-        Ok(()) => s,
-        Err(_) => {
-            tell(s, b"pk: cannot write standard output\n");
-            with_failure(s)
+impl Streams {
+    pub fn new(stdin: Stdin, stdout: Stdout, stderr: Stderr) -> Self
+        ensures open { result.state ≡ State.Open }
+        ensures empty { result.output.end ≡ 0 }
+    {
+        Streams {
+            stdin,
+            stdout,
+            stderr,
+            output: Output::new(),
+            state: State::Open,
         }
     }
-}
 
-// Makes room for `more` bytes of output.
-pub fn reserve(s: Streams, out: &[u8; 65536], more: usize) -> Streams {
-    let used = s.used;
-    if used <= 65536 {
-        if more <= 65536 - used {
-            return s;
+    pub fn fail(&mut self)
+        ensures { self.new ≡ record self.old { state = State.Broken } }
+    {
+        self.state = State::Broken;
+    }
+
+    // Writes a message to standard error. One that cannot be written is lost: there is nowhere to say so.
+    pub fn tell(&self, message: &[u8]) {
+        let mut stderr = self.stderr;
+        let _ = stderr.write_all(message);
+    }
+
+    // Writes out the pending output.
+    pub fn flush(&mut self)
+        ensures { self.new.output.end ≡ 0 }
+    {
+        let mut stdout = self.stdout;
+        let is_lost = self.state != State::Broken
+            && stdout.write_all(self.output.filled()).is_err();
+        self.output.clear();
+        if is_lost {
+            self.tell(b"pk: cannot write standard output\n");
+            self.fail();
         }
     }
-    flush(s, out)
-}
 
-// Reads once, unless the input has ended or anything failed.
-pub fn read_once(mut s: Streams, input: &mut [u8; 65536]) -> Taken {
-    if !s.is_open {
-        return Taken {
-            streams: s,
-            count: 0,
-        };
-    }
-    match s.stdin.read(input) {
-        Ok(count) => {
-            s.is_open = count > 0;
-            Taken { streams: s, count }
+    // Makes room for `more` bytes of output.
+    pub fn reserve(&mut self, more: usize)
+        ensures { more ≤ 65536 → self.new.output.end + more ≤ 65536 }
+    {
+        if !self.output.has_room(more) {
+            self.flush();
         }
-        Err(_) => {
-            tell(s, b"pk: cannot read standard input\n");
-            Taken {
-                streams: with_failure(s),
-                count: 0,
+    }
+
+    // Reads once, unless the input has ended or anything failed. The number of bytes: 0 where the input ended, as std's `read` has it, or could not be read; `state`
+    // tells which.
+    pub fn read(&mut self, input: &mut [u8; 65536]) -> usize {
+        if self.state != State::Open {
+            return 0;
+        }
+        let mut stdin = self.stdin;
+        match stdin.read(input) {
+            Ok(0) => {
+                self.state = State::Ended;
+                0
+            }
+            Ok(count) => count,
+            Err(_) => {
+                self.tell(b"pk: cannot read standard input\n");
+                self.fail();
+                0
             }
         }
     }
-}
 
-// Writes out the rest, and then, unless anything failed, the number of bad lines.
-pub fn close(rt: &impl Files, s: Streams, out: &[u8; 65536], bad: u64) {
-    let t = flush(s, out);
-    if !t.is_broken {
-        // Who waits for the number sees that it did not come.
-        let _ = write_verdict(rt, bad);
+    // Writes out the rest, and then, unless anything failed, the number of bad lines.
+    pub fn close(&mut self, rt: &impl Files, bad: u64) {
+        self.flush();
+        if self.state != State::Broken {
+            // Who waits for the number sees that it did not come.
+            let _ = write_verdict(rt, bad);
+        }
+    }
+
+    // Reads the operation's number.
+    pub fn read_number(&self, rt: &impl Files) -> Option<u32> {
+        let number = read_order(rt);
+        if number.is_none() {
+            self.tell(
+                b"pk: descriptor 5 has no operation's number; expected a decimal number from 0 to 4294967295\n",
+            );
+        }
+        number
     }
 }
 
 // Appends, so that a file there keeps what it has.
 fn write_verdict(rt: &impl Files, bad: u64) -> io::Result<()> {
     let mut file = OpenOptions::new().append(true).open(rt, VERDICT)?;
-    let mut text = [0u8; 24];
-    let end = text_lines::write_unsigned(&mut text, 0, bad);
-    let next = text_lines::write_bytes(&mut text, end, b"\n");
-    file.write_all(text_lines::part(&text, 0, next))
+    let mut text = Output::<24>::new();
+    text.write_unsigned(bad);
+    text.write_bytes(b"\n");
+    file.write_all(text.filled())
 }
 
 fn read_some(rt: &impl Files, text: &mut [u8; 16]) -> io::Result<usize> {
@@ -135,24 +143,11 @@ fn read_some(rt: &impl Files, text: &mut [u8; 16]) -> io::Result<usize> {
 }
 
 // Reads a number from the descriptor of the order: decimal digits, up to a line feed or the end.
-fn read_order(rt: &impl Files) -> Asked {
+fn read_order(rt: &impl Files) -> Option<u32> {
     let mut text = [0u8; 16];
-    let n = read_some(rt, &mut text).unwrap_or(0);
-    let end = text_lines::find(text_lines::part(&text, 0, n), 0, b'\n');
-    match text_lines::read_unsigned(text_lines::part(&text, 0, end)) {
-        Field::Value(v) => Asked::Number((v % 4294967296) as u32),
-        Field::Not(_) => Asked::Nothing,
-    }
-}
-
-// Reads the operation's number.
-pub fn read_number(rt: &impl Files, s: Streams) -> Asked {
-    let asked = read_order(rt);
-    if let Asked::Nothing = asked {
-        tell(
-            s,
-            b"pk: descriptor 5 has no operation's number; expected a decimal number from 0 to 4294967295\n",
-        );
-    }
-    asked
+    let count = read_some(rt, &mut text).unwrap_or(0);
+    let line = text_lines::part(&text, 0, count);
+    let end = text_lines::find(line, 0, b'\n');
+    let number = text_lines::read_unsigned(text_lines::part(line, 0, end)).ok()?;
+    u32::try_from(number).ok()
 }

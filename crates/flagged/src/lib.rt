@@ -2,7 +2,6 @@
 #![tactic(auto)]
 
 ghost use Rattle.std.specs.Prelude.{◌≡◌};
-ghost use Rattle.ieee.specs.Format.{b64, b32};
 ghost use Rattle.ieee.specs.Fma.{fma_of, fma_flags};
 ghost use Rattle.ieee.specs.Scalbn.{scalbn_of, scalbn_flags};
 ghost use Rattle.ieee.specs.Sqrt.{sqrt_of, sqrt_flags};
@@ -10,12 +9,15 @@ ghost use Rattle.ieee.specs.Whole.{trunc_of, trunc_flags, floor_of, floor_flags,
 ghost use Rattle.fmt_fields.specs.Raised.{flags_of};
 ghost use Rattle.flagged.specs.Record.{record_of};
 
-use fmt_fields::env::Raised;
+use fma::fused::Fused;
+use fmt_fields::env::{Flagged, Raised};
+use fmt_fields::width::Width;
+use sqrt_number::rooted::Rooted;
 
 pub mod rounded;
 
 // The exceptions of IEEE 754, clause 7, raised or not.
-#[derive(Clone, Copy)]
+#[derive(Clone, Copy, Debug, PartialEq, Eq)]
 pub struct Flags {
     pub invalid: bool,
     pub division_by_zero: bool,
@@ -24,160 +26,70 @@ pub struct Flags {
     pub inexact: bool,
 }
 
-#[derive(Clone, Copy)]
-pub struct Flagged64 {
-    pub value: u64,
-    pub flags: Flags,
-}
+impl From<Raised> for Flags {
+    ghost from_gives = { λ raised flags. record_of flags ≡ flags_of raised };
 
-#[derive(Clone, Copy)]
-pub struct Flagged32 {
-    pub value: u32,
-    pub flags: Flags,
-}
-
-// The record of flags in a word.
-fn record_of(f: Raised) -> Flags
-    ensures { record_of result ≡ flags_of f }
-{
-    let bits = f.bits;
-    Flags {
-        invalid: bits % 2 == 1,
-        division_by_zero: bits / 4 % 2 == 1,
-        overflow: bits / 8 % 2 == 1,
-        underflow: bits / 16 % 2 == 1,
-        inexact: bits / 32 % 2 == 1,
+    fn from(raised: Raised) -> Flags {
+        let bits = raised.bits;
+        Flags {
+            invalid: bits % 2 == 1,
+            division_by_zero: bits / 4 % 2 == 1,
+            overflow: bits / 8 % 2 == 1,
+            underflow: bits / 16 % 2 == 1,
+            inexact: bits / 32 % 2 == 1,
+        }
     }
 }
 
-pub fn sqrt64_flags(x: u64) -> Flagged64
-    ensures { (result.value ≡ sqrt_of b64 x) × (record_of result.flags ≡ sqrt_flags b64 x) }
+// The same value, with the record of its flags.
+fn recorded<W: Width>(a: Flagged<W, Raised>) -> Flagged<W, Flags>
+    ensures value { result.value ≡ a.value }
+    ensures flags { record_of result.flags ≡ flags_of a.flags }
 {
-    let a = sqrt::sqrt::sqrt64_flags(x);
-    let raised = a.flags;
-    Flagged64 {
+    Flagged {
         value: a.value,
-        flags: record_of(raised),
+        flags: Flags::from(a.flags),
     }
 }
 
-pub fn sqrt32_flags(x: u32) -> Flagged32
-    ensures { (result.value ≡ sqrt_of b32 x) × (record_of result.flags ≡ sqrt_flags b32 x) }
+pub fn sqrt_flags<W: Rooted>(x: W) -> Flagged<W, Flags>
+    ensures value { W.pattern result.value ≡ sqrt_of W.layout (W.pattern x) }
+    ensures flags { record_of result.flags ≡ sqrt_flags W.layout (W.pattern x) }
 {
-    let a = sqrt::sqrt::sqrt32_flags(x);
-    let raised = a.flags;
-    Flagged32 {
-        value: a.value,
-        flags: record_of(raised),
-    }
+    recorded(sqrt::sqrt::sqrt_flags(x))
 }
 
-pub fn floor64_flags(x: u64) -> Flagged64
-    ensures { (result.value ≡ floor_of b64 x) × (record_of result.flags ≡ floor_flags b64 x) }
+pub fn floor_flags<W: Width>(x: W) -> Flagged<W, Flags>
+    ensures value { W.pattern result.value ≡ floor_of W.layout (W.pattern x) }
+    ensures flags { record_of result.flags ≡ floor_flags W.layout (W.pattern x) }
 {
-    let a = integral::floor::floor64_flags(x);
-    let raised = a.flags;
-    Flagged64 {
-        value: a.value,
-        flags: record_of(raised),
-    }
+    recorded(integral::floor::floor_flags(x))
 }
 
-pub fn floor32_flags(x: u32) -> Flagged32
-    ensures { (result.value ≡ floor_of b32 x) × (record_of result.flags ≡ floor_flags b32 x) }
+pub fn trunc_flags<W: Width>(x: W) -> Flagged<W, Flags>
+    ensures value { W.pattern result.value ≡ trunc_of W.layout (W.pattern x) }
+    ensures flags { record_of result.flags ≡ trunc_flags W.layout (W.pattern x) }
 {
-    let a = integral::floor::floor32_flags(x);
-    let raised = a.flags;
-    Flagged32 {
-        value: a.value,
-        flags: record_of(raised),
-    }
+    recorded(integral::trunc::trunc_flags(x))
 }
 
-pub fn trunc64_flags(x: u64) -> Flagged64
-    ensures { (result.value ≡ trunc_of b64 x) × (record_of result.flags ≡ trunc_flags b64 x) }
+pub fn ceil_flags<W: Width>(x: W) -> Flagged<W, Flags>
+    ensures value { W.pattern result.value ≡ ceil_of W.layout (W.pattern x) }
+    ensures flags { record_of result.flags ≡ ceil_flags W.layout (W.pattern x) }
 {
-    let a = integral::trunc::trunc64_flags(x);
-    let raised = a.flags;
-    Flagged64 {
-        value: a.value,
-        flags: record_of(raised),
-    }
+    recorded(integral::ceil::ceil_flags(x))
 }
 
-pub fn trunc32_flags(x: u32) -> Flagged32
-    ensures { (result.value ≡ trunc_of b32 x) × (record_of result.flags ≡ trunc_flags b32 x) }
+pub fn fma_flags<W: Fused>(x: W, y: W, z: W) -> Flagged<W, Flags>
+    ensures value { W.pattern result.value ≡ fma_of W.layout (W.pattern x) (W.pattern y) (W.pattern z) }
+    ensures flags { record_of result.flags ≡ fma_flags W.layout (W.pattern x) (W.pattern y) (W.pattern z) }
 {
-    let a = integral::trunc::trunc32_flags(x);
-    let raised = a.flags;
-    Flagged32 {
-        value: a.value,
-        flags: record_of(raised),
-    }
+    recorded(fma::fma::fma_flags(x, y, z))
 }
 
-pub fn ceil64_flags(x: u64) -> Flagged64
-    ensures { (result.value ≡ ceil_of b64 x) × (record_of result.flags ≡ ceil_flags b64 x) }
+pub fn scalbn_flags<W: Width>(x: W, n: i32) -> Flagged<W, Flags>
+    ensures value { W.pattern result.value ≡ scalbn_of W.layout (W.pattern x) n }
+    ensures flags { record_of result.flags ≡ scalbn_flags W.layout (W.pattern x) n }
 {
-    let a = integral::ceil::ceil64_flags(x);
-    let raised = a.flags;
-    Flagged64 {
-        value: a.value,
-        flags: record_of(raised),
-    }
-}
-
-pub fn ceil32_flags(x: u32) -> Flagged32
-    ensures { (result.value ≡ ceil_of b32 x) × (record_of result.flags ≡ ceil_flags b32 x) }
-{
-    let a = integral::ceil::ceil32_flags(x);
-    let raised = a.flags;
-    Flagged32 {
-        value: a.value,
-        flags: record_of(raised),
-    }
-}
-
-pub fn fma64_flags(x: u64, y: u64, z: u64) -> Flagged64
-    ensures { (result.value ≡ fma_of b64 x y z) × (record_of result.flags ≡ fma_flags b64 x y z) }
-{
-    let a = fma::fma::fma64_flags(x, y, z);
-    let raised = a.flags;
-    Flagged64 {
-        value: a.value,
-        flags: record_of(raised),
-    }
-}
-
-pub fn fma32_flags(x: u32, y: u32, z: u32) -> Flagged32
-    ensures { (result.value ≡ fma_of b32 x y z) × (record_of result.flags ≡ fma_flags b32 x y z) }
-{
-    let a = fma::fma::fma32_flags(x, y, z);
-    let raised = a.flags;
-    Flagged32 {
-        value: a.value,
-        flags: record_of(raised),
-    }
-}
-
-pub fn scalbn64_flags(x: u64, n: i32) -> Flagged64
-    ensures { (result.value ≡ scalbn_of b64 x n) × (record_of result.flags ≡ scalbn_flags b64 x n) }
-{
-    let a = scalbn::scalbn::scalbn64_flags(x, n);
-    let raised = a.flags;
-    Flagged64 {
-        value: a.value,
-        flags: record_of(raised),
-    }
-}
-
-pub fn scalbn32_flags(x: u32, n: i32) -> Flagged32
-    ensures { (result.value ≡ scalbn_of b32 x n) × (record_of result.flags ≡ scalbn_flags b32 x n) }
-{
-    let a = scalbn::scalbn::scalbn32_flags(x, n);
-    let raised = a.flags;
-    Flagged32 {
-        value: a.value,
-        flags: record_of(raised),
-    }
+    recorded(scalbn::scalbn::scalbn_flags(x, n))
 }

@@ -1,82 +1,40 @@
 // The operations under an attribute by its number, with their flags as a record of five bools.
 ghost use Rattle.std.specs.Prelude.{◌≡◌};
-ghost use Rattle.ieee.specs.Format.{b64, b32};
 ghost use Rattle.ieee.specs.Rounded.{sqrt_rounded, fma_rounded, scalbn_rounded};
-ghost use Rattle.fmt_fields.specs.Numbered.{answer64, answer32};
-ghost use Rattle.flagged.specs.Record.{rounded_of64, rounded_of32};
+ghost use Rattle.fmt_fields.specs.Raised.{flags_of};
+ghost use Rattle.fmt_fields.specs.Numbered.{rounded_of};
+ghost use Rattle.flagged.specs.Record.{record_of};
 
-use crate::{Flags, record_of};
-use fmt_fields::numbered::{Answer32, Answer64};
+use crate::{Flags, recorded};
+use fma::fused::Fused;
+use fmt_fields::env::{Flagged, Raised};
+use fmt_fields::refusal::Refusal;
+use fmt_fields::width::Width;
+use sqrt_number::rooted::Rooted;
 
-// The number of a refusal, 0 where the call is done; the value and the flags, zero and none where it is refused.
-#[derive(Clone, Copy)]
-pub struct Rounded64 {
-    pub refusal: u32,
-    pub value: u64,
-    pub flags: Flags,
-}
-
-#[derive(Clone, Copy)]
-pub struct Rounded32 {
-    pub refusal: u32,
-    pub value: u32,
-    pub flags: Flags,
-}
-
-fn record64(a: Answer64) -> Rounded64
-    ensures { rounded_of64 result ≡ answer64 a }
+// The same answer, with the record of its flags.
+fn with_record<W: Width>(
+    answer: Result<Flagged<W, Raised>, Refusal>,
+) -> Result<Flagged<W, Flags>, Refusal>
+    ensures { rounded_of W.pattern record_of result ≡ rounded_of W.pattern flags_of answer }
 {
-    let raised = a.flags;
-    Rounded64 {
-        refusal: a.refusal,
-        value: a.value,
-        flags: record_of(raised),
-    }
+    Ok(recorded(answer?))
 }
 
-fn record32(a: Answer32) -> Rounded32
-    ensures { rounded_of32 result ≡ answer32 a }
+pub fn sqrt_rounded<W: Rooted>(attribute: u32, x: W) -> Result<Flagged<W, Flags>, Refusal>
+    ensures { rounded_of W.pattern record_of result ≡ sqrt_rounded W.layout attribute (W.pattern x) }
 {
-    let raised = a.flags;
-    Rounded32 {
-        refusal: a.refusal,
-        value: a.value,
-        flags: record_of(raised),
-    }
+    with_record(sqrt::sqrt::sqrt_rounded(attribute, x))
 }
 
-pub fn sqrt64_rounded(attribute: u32, x: u64) -> Rounded64
-    ensures { rounded_of64 result ≡ sqrt_rounded b64 attribute x }
+pub fn fma_rounded<W: Fused>(attribute: u32, x: W, y: W, z: W) -> Result<Flagged<W, Flags>, Refusal>
+    ensures { rounded_of W.pattern record_of result ≡ fma_rounded W.layout attribute (W.pattern x) (W.pattern y) (W.pattern z) }
 {
-    record64(sqrt::sqrt::sqrt64_rounded(attribute, x))
+    with_record(fma::rounded::fma_rounded(attribute, x, y, z))
 }
 
-pub fn sqrt32_rounded(attribute: u32, x: u32) -> Rounded32
-    ensures { rounded_of32 result ≡ sqrt_rounded b32 attribute x }
+pub fn scalbn_rounded<W: Width>(attribute: u32, x: W, n: i32) -> Result<Flagged<W, Flags>, Refusal>
+    ensures { rounded_of W.pattern record_of result ≡ scalbn_rounded W.layout attribute (W.pattern x) n }
 {
-    record32(sqrt::sqrt::sqrt32_rounded(attribute, x))
-}
-
-pub fn fma64_rounded(attribute: u32, x: u64, y: u64, z: u64) -> Rounded64
-    ensures { rounded_of64 result ≡ fma_rounded b64 attribute x y z }
-{
-    record64(fma::rounded::fma64_rounded(attribute, x, y, z))
-}
-
-pub fn fma32_rounded(attribute: u32, x: u32, y: u32, z: u32) -> Rounded32
-    ensures { rounded_of32 result ≡ fma_rounded b32 attribute x y z }
-{
-    record32(fma::rounded::fma32_rounded(attribute, x, y, z))
-}
-
-pub fn scalbn64_rounded(attribute: u32, x: u64, n: i32) -> Rounded64
-    ensures { rounded_of64 result ≡ scalbn_rounded b64 attribute x n }
-{
-    record64(scalbn::rounded::scalbn64_rounded(attribute, x, n))
-}
-
-pub fn scalbn32_rounded(attribute: u32, x: u32, n: i32) -> Rounded32
-    ensures { rounded_of32 result ≡ scalbn_rounded b32 attribute x n }
-{
-    record32(scalbn::rounded::scalbn32_rounded(attribute, x, n))
+    with_record(scalbn::rounded::scalbn_rounded(attribute, x, n))
 }

@@ -64,12 +64,12 @@ pub by_location : {p e : ℕ} → Fits p e → (a : Attribute) {G r : ℕ × Fla
 by_location w a u sum m c some at r g = r ∙ rounded_located w a u sum m (omega (arith, some)) at.0 ∙ g
 
 -- ---- what a location may be handed on with
-pub finishes : {p e : ℕ} → Fits p e → (x : Exact) (c : Located) → Locates (format p e) x c → Fits p e × (c.below < inf (format p e)) × (c.location ≤ 3)
-finishes w x c at = let (b, l) = in_bounds w x at.0.0 at.0.1 in (w, b, l)
+pub finishes : {p e : ℕ} → Fits p e → (x : Exact) (c : Located) → Locates (format p e) x c → (c.below < inf (format p e)) × (c.location ≤ 3)
+finishes w x c at = in_bounds w x at.0.0 at.0.1
 
 pub finishes_inside : {p e : ℕ} → Fits p e → (x : Exact) (c : Located) → Locates (format p e) x c → c.inside ≡ true
-    → Fits p e × (c.below < inf (format p e)) × (c.location ≤ 3) × (true ≡ inside_at (format p e) c.below)
-finishes_inside w x c at i = let (b, l) = in_bounds w x at.0.0 at.0.1 in (w, b, l, sym i ∙ at.1)
+    → (c.below < inf (format p e)) × (c.location ≤ 3) × (true ≡ inside_at (format p e) c.below)
+finishes_inside w x c at i = let (b, l) = in_bounds w x at.0.0 at.0.1 in (b, l, sym i ∙ at.1)
 
 -- the upper of two digits
 pub upper_below : (h l b : ℕ) → h * b + l < b * b → h < b

@@ -1,80 +1,69 @@
 // The flags of the rows of fma.
-ghost use Rattle.std.specs.Prelude.{◌≡◌, true, false, max};
-ghost use Rattle.ieee.specs.Pattern.{Pattern, kind};
-ghost use Rattle.ieee.specs.Round.{Attribute};
-ghost use Rattle.ieee.specs.Fma.{fma_flags_in, clashes, signalled};
-ghost use Rattle.fmt_fields.specs.Width.{format, Fits};
-ghost use Rattle.fmt_fields.specs.Raised.{flags_of};
-ghost use Rattle.fma.specs.Special.{special, opposed};
+use crate::special::Operands;
+use fmt_fields::env::Raised;
 
-use fmt_fields::env::{Raised, invalid_if};
-use fmt_fields::is_negative;
-use fmt_fields::pattern::{infinity, is_signalling, magnitude_of};
+impl Operands {
+    ghost use Rattle.std.specs.Prelude.{◌≡◌, true, false};
+    ghost use Rattle.ieee.specs.Pattern.{Pattern, kind};
+    ghost use Rattle.ieee.specs.Round as ieee;
+    ghost use Rattle.ieee.specs.Fma.{fma_flags_in, clashes, signalled};
+    ghost use Rattle.fmt_fields.specs.Layout.{format_of};
+    ghost use Rattle.fmt_fields.specs.Raised.{flags_of};
+    ghost use Rattle.fma.specs.Special.{special, opposed};
 
-// Whether an operand signals.
-fn any_signals(frac: u32, expo: u32, x: u64, y: u64, z: u64) -> bool
-    requires { Fits frac expo }
-    ensures { result ≡ signalled (format frac expo) x y z }
-{
-    if is_signalling(frac, expo, x) {
-        return true;
+    // Whether an operand signals.
+    fn any_signals(self) -> bool
+        ensures { result ≡ signalled (format_of self.fmt) self.x self.y self.z }
+    {
+        let Operands { fmt, x, y, z } = self;
+        fmt.is_signalling(x) || fmt.is_signalling(y) || fmt.is_signalling(z)
     }
-    if is_signalling(frac, expo, y) {
-        return true;
-    }
-    is_signalling(frac, expo, z)
-}
 
-// Whether a zero meets an infinity in the product.
-fn is_clash(frac: u32, expo: u32, x: u64, y: u64) -> bool
-    requires { Fits frac expo }
-    ensures { result ≡ clashes (kind (format frac expo) x) (kind (format frac expo) y) }
-{
-    let inf = infinity(frac, expo);
-    let mx = magnitude_of(frac, expo, x);
-    let my = magnitude_of(frac, expo, y);
-    if mx == inf {
-        return my == 0;
+    // Whether a zero meets an infinity in the product.
+    fn is_clash(self) -> bool
+        ensures { result ≡ clashes (kind (format_of self.fmt) self.x) (kind (format_of self.fmt) self.y) }
+    {
+        let inf = self.fmt.infinity();
+        let mx = self.fmt.magnitude_of(self.x);
+        let my = self.fmt.magnitude_of(self.y);
+        if mx == inf {
+            return my == 0;
+        }
+        if my == inf {
+            return mx == 0;
+        }
+        false
     }
-    if my == inf {
-        return mx == 0;
-    }
-    false
-}
 
-fn larger(a: u64, b: u64) -> u64
-    ensures { result ≡ max a b }
-{
-    if a < b { b } else { a }
-}
+    // Whether an infinite product meets an infinite z of the other sign. The product is infinite where the larger factor is, as no zero stands beside it.
+    fn is_opposed(self) -> bool
+        requires { clashes (kind (format_of self.fmt) self.x) (kind (format_of self.fmt) self.y) ≡ false }
+        ensures { result ≡ opposed (format_of self.fmt) self.x self.y self.z }
+    {
+        let Operands { fmt, x, y, z } = self;
+        let inf = fmt.infinity();
+        let top = fmt.magnitude_of(x).max(fmt.magnitude_of(y));
+        if fmt.magnitude_of(z) != inf {
+            return false;
+        }
+        if top != inf {
+            return false;
+        }
+        let neg = fmt.is_negative(x) != fmt.is_negative(y);
+        neg != fmt.is_negative(z)
+    }
 
-// Whether an infinite product meets an infinite z of the other sign. The product is infinite where the larger factor is, as no zero stands beside it.
-fn is_opposed(frac: u32, expo: u32, x: u64, y: u64, z: u64) -> bool
-    requires { Fits frac expo × (clashes (kind (format frac expo) x) (kind (format frac expo) y) ≡ false) }
-    ensures { result ≡ opposed (format frac expo) x y z }
-{
-    let inf = infinity(frac, expo);
-    let top = larger(magnitude_of(frac, expo, x), magnitude_of(frac, expo, y));
-    if magnitude_of(frac, expo, z) != inf {
-        return false;
+    // Invalid or nothing: what is left over, a zero product, is exact.
+    pub fn special_flags(self) -> Raised
+        requires { Pattern (format_of self.fmt) self.z × (special (format_of self.fmt) self.x self.y self.z ≡ true) }
+        ensures { (a : ieee.Attribute) → flags_of result ≡ fma_flags_in (format_of self.fmt) a self.x self.y self.z }
+    {
+        if self.any_signals() {
+            return Raised::invalid_if(true);
+        }
+        if self.is_clash() {
+            return Raised::invalid_if(true);
+        }
+        Raised::invalid_if(self.is_opposed())
     }
-    if top != inf {
-        return false;
-    }
-    let neg = is_negative(frac, expo, x) != is_negative(frac, expo, y);
-    neg != is_negative(frac, expo, z)
-}
-
-// Invalid or nothing: what is left over, a zero product, is exact.
-pub fn special_flags(frac: u32, expo: u32, x: u64, y: u64, z: u64) -> Raised
-    requires { Fits frac expo × Pattern (format frac expo) z × (special (format frac expo) x y z ≡ true) }
-    ensures { (a : Attribute) → flags_of result ≡ fma_flags_in (format frac expo) a x y z }
-{
-    if any_signals(frac, expo, x, y, z) {
-        return invalid_if(true);
-    }
-    if is_clash(frac, expo, x, y) {
-        return invalid_if(true);
-    }
-    invalid_if(is_opposed(frac, expo, x, y, z))
 }

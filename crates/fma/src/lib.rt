@@ -3,5 +3,6 @@
 
 pub mod flags;
 pub mod fma;
+pub mod fused;
 pub mod rounded;
 pub mod special;

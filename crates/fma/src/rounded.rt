@@ -1,89 +1,79 @@
 // fma under an attribute: x times y plus z, rounded once.
-ghost use Rattle.std.specs.Prelude.{◌≡◌};
-ghost use Rattle.ieee.specs.Format.{b64, b32};
+ghost use Rattle.std.specs.Prelude.{◌≡◌, true, ◌+◌, ◌<◌, ◌^◌};
+ghost use Rattle.std.specs.Int.Signed.{mag};
+ghost use Rattle.ieee.specs.Pattern.{Pattern};
 ghost use Rattle.ieee.specs.Fma.{fma_in, fma_flags_in};
 ghost use Rattle.ieee.specs.Rounded.{fma_rounded};
-ghost use Rattle.fmt_fields.specs.Numbered.{answer64, answer32};
+ghost use Rattle.fmt_fields.specs.Layout.{format_of};
+ghost use Rattle.fmt_fields.specs.Numbered.{rounded_of};
 ghost use Rattle.fmt_fields.specs.Raised.{attribute_of, flags_of};
+ghost use Rattle.round_step.specs.Outcome.{told};
+ghost use Rattle.fma_laws.specs.Fused.{rounded_sum, fma_gives};
+ghost use Rattle.fma.specs.Special.{special};
 
-use crate::flags::special_flags;
-use crate::special::{fma_special, is_special, zero_sum};
-use fma_sum::sum::{add_third, locate_sum, product_of};
-use fma_sum::sum_wide::{add_aligned_wide, align_third_wide, fold_sum, product_of_wide};
-use fma_sum::third::third_of;
-use fmt_fields::env::{Attribute, Raised64, no_flags};
-use fmt_fields::numbered::{
-    Answer32, Answer64, accept_narrow, accept64, attribute_of, is_attribute, refuse32, refuse64,
-};
-use round_step::round::{finish, finish_inside, raise64};
+use crate::fused::Fused;
+use crate::special::{Operands, zero_sum};
+use fma_align::product::Scaled;
+use fma_sum::sum::locate_sum;
+use fmt_fields::attribute::Attribute;
+use fmt_fields::env::{Flagged, Raised};
+use fmt_fields::layout::Format;
+use fmt_fields::refusal::Refusal;
+use round_step::round::{finish, finish_inside};
 
-// The parts of `fma64_flags` in a row, with the attribute handed on.
-pub fn fma64_in(attribute: Attribute, x: u64, y: u64, z: u64) -> Raised64
-    ensures { (result.value ≡ fma_in b64 (attribute_of attribute) x y z) × (flags_of result.flags ≡ fma_flags_in b64 (attribute_of attribute) x y z) }
+// The row of operands that have one.
+#[inline(always)]
+fn by_row(attribute: Attribute, o: Operands) -> Flagged<u64, Raised>
+    requires { Pattern (format_of o.fmt) o.z × (special (format_of o.fmt) o.x o.y o.z ≡ true) }
+    ensures { told result ≡ fma_gives (format_of o.fmt) (attribute_of attribute) o.x o.y o.z }
 {
-    if is_special(52, 11, x, y, z) {
-        return Raised64 {
-            value: fma_special(52, 11, attribute, x, y, z),
-            flags: special_flags(52, 11, x, y, z),
+    Flagged {
+        value: o.fma_special(attribute),
+        flags: o.special_flags(),
+    }
+}
+
+// A sum rounded once. One of no steps has terms of unlike signs. Most sums lie inside the range, and there the flags cost little.
+#[inline(always)]
+fn round_sum(fmt: Format, attribute: Attribute, s: Scaled<u64>) -> Flagged<u64, Raised>
+    requires { mag s.exp < 2 ^ 19 + 2 ^ 18 + 2 ^ 7 }
+    ensures { told result ≡ rounded_sum (format_of fmt) (attribute_of attribute) s.neg s.sig s.exp }
+{
+    if s.sig == 0 {
+        return Flagged {
+            value: zero_sum(fmt, attribute),
+            flags: Raised::none(),
         };
     }
-    let p = product_of_wide(52, 11, x, y);
-    let q = third_of(52, 11, z);
-    let s = fold_sum(add_aligned_wide(p, q, align_third_wide(p, q)));
-    if s.steps == 0 {
-        return Raised64 {
-            value: zero_sum(52, 11, attribute),
-            flags: no_flags(),
-        };
-    }
-    let l = locate_sum(52, 11, s);
+    let l = locate_sum(fmt, s);
     if l.inside {
-        return raise64(finish_inside(52, 11, attribute, s.neg, l));
+        return finish_inside(fmt, attribute, s.neg, l);
     }
-    raise64(finish(52, 11, attribute, s.neg, l))
+    finish(fmt, attribute, s.neg, l)
 }
 
-pub fn fma32_in(attribute: Attribute, x: u32, y: u32, z: u32) -> Raised64
-    ensures { (result.value ≡ fma_in b32 (attribute_of attribute) x y z) × (flags_of result.flags ≡ fma_flags_in b32 (attribute_of attribute) x y z) }
+// Numbers take the sum; everything else, and a zero product, has a row of its own.
+#[inline(always)]
+pub fn fma_in<W: Fused>(attribute: Attribute, x: W, y: W, z: W) -> Flagged<W, Raised>
+    ensures value { W.pattern result.value ≡ fma_in W.layout (attribute_of attribute) (W.pattern x) (W.pattern y) (W.pattern z) }
+    ensures flags { flags_of result.flags ≡ fma_flags_in W.layout (attribute_of attribute) (W.pattern x) (W.pattern y) (W.pattern z) }
 {
-    let a = x as u64;
-    let b = y as u64;
-    let c = z as u64;
-    if is_special(23, 8, a, b, c) {
-        return Raised64 {
-            value: fma_special(23, 8, attribute, a, b, c),
-            flags: special_flags(23, 8, a, b, c),
-        };
+    let o = Operands {
+        fmt: W::format(),
+        x: x.widen(),
+        y: y.widen(),
+        z: z.widen(),
+    };
+    if o.is_special() {
+        return by_row(attribute, o).narrow();
     }
-    let s = add_third(product_of(23, 8, a, b), third_of(23, 8, c));
-    if s.steps == 0 {
-        return Raised64 {
-            value: zero_sum(23, 8, attribute),
-            flags: no_flags(),
-        };
-    }
-    let l = locate_sum(23, 8, s);
-    if l.inside {
-        return raise64(finish_inside(23, 8, attribute, s.neg, l));
-    }
-    raise64(finish(23, 8, attribute, s.neg, l))
+    round_sum(o.fmt, attribute, W::fused(o.x, o.y, o.z)).narrow()
 }
 
-// By the number of the attribute.
-pub fn fma64_rounded(number: u32, x: u64, y: u64, z: u64) -> Answer64
-    ensures { answer64 result ≡ fma_rounded b64 number x y z }
+// By the number of the attribute, as `fma_rounded` of the definitions has it, and C.
+pub fn fma_rounded<W: Fused>(number: u32, x: W, y: W, z: W) -> Result<Flagged<W, Raised>, Refusal>
+    ensures { rounded_of W.pattern flags_of result ≡ fma_rounded W.layout number (W.pattern x) (W.pattern y) (W.pattern z) }
 {
-    if is_attribute(number) {
-        return accept64(fma64_in(attribute_of(number), x, y, z));
-    }
-    refuse64()
-}
-
-pub fn fma32_rounded(number: u32, x: u32, y: u32, z: u32) -> Answer32
-    ensures { answer32 result ≡ fma_rounded b32 number x y z }
-{
-    if is_attribute(number) {
-        return accept_narrow(fma32_in(attribute_of(number), x, y, z));
-    }
-    refuse32()
+    let attribute = Attribute::try_from(number)?;
+    Ok(fma_in(attribute, x, y, z))
 }

@@ -33,9 +33,9 @@ unfolding third_at
 third_le l q (pos n) = omega (arith, times_le q (pow_mono {i = min n l} {j = l} (omega arith)))
 third_le l q (negsuc n) = omega (arith, stuck_le q (suc n), times_le q (pow_pos l))
 
--- so their sum is below twice what bounds both
-pub added_below : (l p q : ℕ) (d : ℤ) {a b h k : ℕ} → a ≡ product_at l p d → b ≡ third_at l q d → p < k → q < h → h * 2 ^ l ≡ k → a + b < 2 * k
-added_below l p q d i j u v e = omega (arith, product_le l p d, third_le l q d, times_le (2 ^ l) v, pow_pos l, e)
+-- so their sum is below what bounds the product and the third number at its highest
+pub added_below : (l p q : ℕ) (d : ℤ) {a b k : ℕ} → a ≡ product_at l p d → b ≡ third_at l q d → p + q * 2 ^ l < k → a + b < k
+added_below l p q d i j u = omega (arith, product_le l p d, third_le l q d)
 
 pub sig_most : (f : Format) (g : Fair f) (v : ℕ) → Ordinary f v → sig_of f v < 2 * 2 ^ f.frac
 sig_most f g v o = let (at, n) = normal_is f g v o.least in n.most

@@ -2,6 +2,5 @@
 #![tactic(auto)]
 
 pub mod sum;
-pub mod sum_wide;
 pub mod third;
 pub mod units;

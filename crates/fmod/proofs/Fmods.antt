@@ -27,7 +27,6 @@ use Rattle.fmt_decode.proofs.InUnits.{units_given}
 use Rattle.fmt_decode.proofs.Packs.{exactly_below}
 use Rattle.fmt_decode.proofs.Significands.{exponent_is, significand_some, significand_small, units_counted}
 use Rattle.fmt_decode.specs.Rows.{no_remainder}
-use Rattle.fmt_fields.proofs.Decoded.{field_in_word}
 use Rattle.fmt_fields.proofs.Numbers.{infinity_some}
 use Rattle.fmod.specs.Division.{settled, left_of}
 use Rattle.fmt_decode.proofs.Sorts.{no_remainder_none, Remains, remains}
@@ -156,20 +155,14 @@ module _ {p e : ℕ} (w : Fits p e) (x y : ℕ) (r : Reduces (format p e) x y) {
       omega
       (arith, eq_z_fact (i.1 ∙ sym (exponent_is f x)), eq_z_fact (j.1 ∙ sym (exponent_is f y)), sub_z (pos (units_exp f x)) (pos (low f)), sub_z (pos (units_exp f y)) (pos (low f)))
 
-  pub exponents_ready : (mag a < 2 ^ 17) × (mag b < 2 ^ 17) × T (le_z b a)
-  exponents_ready = (i.3.small, j.3.small, le_z_of b a (omega (arith, apart, r.ordered)))
+  pub exponents_ready : (mag a < 2 ^ 17) × (mag b < 2 ^ 17) × T (le_z b a) × (0 < sy)
+  exponents_ready = (i.3.small, j.3.small, le_z_of b a (omega (arith, apart, r.ordered)), omega (arith, j.0, r.some))
 
   pub parts_are : {s t k : ℕ} → (s ≡ sx) × (pos k ≡ a -ℤ b) × (t ≡ sy)
-      → ((s ≡ significand f x) × (k ≡ units_exp f x - units_exp f y) × (t ≡ significand f y)) × (s < 2 ^ (p + 1)) × (0 < t) × (t < 2 ^ (p + 1)) × (k < 2 ^ 16)
+      → ((s ≡ significand f x) × (k ≡ units_exp f x - units_exp f y) × (t ≡ significand f y)) × (s < 2 ^ (p + 1)) × (t < 2 ^ (p + 1))
   parts_are {s} {t} {k} (g, d, h) =
       let shift : k ≡ units_exp f x - units_exp f y = omega (arith, eq_z_fact d, sub_z a b, apart, r.ordered) in (
         (g ∙ i.0, shift, h ∙ j.0),
         omega (arith, g ∙ i.0, significand_small f x, pow-add 2 p 1),
-        omega (arith, h ∙ j.0, r.some),
         omega (arith, h ∙ j.0, significand_small f y, pow-add 2 p 1),
-        omega (arith, field_in_word w x),
       )
-
--- significands and a shift that are the definition's leave what it leaves
-pub left_by_parts : (f : Format) (x y : ℕ) {a b c : ℕ} → (a ≡ significand f x) × (b ≡ units_exp f x - units_exp f y) × (c ≡ significand f y) → a * 2 ^ b % c ≡ left_of f x y
-left_by_parts f x y (i, j, k) = λ n. i n * 2 ^ j n % k n

@@ -1,8 +1,8 @@
 -- A significand and an exponent as whole smallest units, by the exponent's sign; a number with fewer bits than the fraction is its own magnitude. Assumes nothing.
-use Rattle.std.proofs.Common.{◌≡◌, ℕ, suc, ◌+◌, ◌-◌, ◌*◌, ◌/◌, ◌^◌, ◌<◌, ◌≤◌, true, false, ℤ, pos, negsuc, ◌+ℤ◌, ◌-ℤ◌, nat_abs, sym, ap, ◌∙◌, arith, pow_pos}
+use Rattle.std.proofs.Common.{◌≡◌, ℕ, suc, ◌+◌, ◌-◌, ◌*◌, ◌/◌, ◌^◌, ◌<◌, ◌≤◌, true, ℤ, pos, negsuc, ◌+ℤ◌, ◌-ℤ◌, nat_abs, sym, refl, ap, ◌∙◌, arith, pow_pos}
 use lib.Pow.{shr_le, shl-shr}
 use lib.Signed.{lt_z}
-use Rattle.algebra.proofs.Integers.{abs_z, add_z, sub_z, eq_z, lt_z_true, lt_z_false}
+use Rattle.algebra.proofs.Integers.{add_z, sub_z, eq_z, lt_z_true}
 use Rattle.algebra.proofs.Products.{order, times, mul_eq_cancel}
 use Rattle.algebra.proofs.Powers.{pow_diff}
 use Rattle.ieee.specs.Format.{Format, low, units, inf}
@@ -11,13 +11,9 @@ use Rattle.fmt_decode.proofs.Packs.{exactly_packed}
 use Rattle.fmt_decode.specs.Significand.{units_exp, exponent, shifted, units_at}
 use Rattle.fmt_decode.proofs.Significands.{exponent_is}
 
-pub shifted_up : (s : ℕ) (z : ℤ) → lt_z z (pos 0) ≡ false → s * 2 ^ nat_abs z ≡ shifted s z
-shifted_up s (pos n) t = ap (λ k. s * 2 ^ k) (omega (arith, abs_z (pos n)))
-shifted_up s (negsuc n) t = let l = lt_z_false (negsuc n) (pos 0) t in absurd (omega arith)
-
-pub shifted_down : (s : ℕ) (z : ℤ) → lt_z z (pos 0) ≡ true → s / 2 ^ nat_abs (pos 0 -ℤ z) ≡ shifted s z
+pub shifted_down : (s : ℕ) (z : ℤ) → lt_z z (pos 0) ≡ true → s / 2 ^ nat_abs z ≡ shifted s z
 shifted_down s (pos n) t = let l = lt_z_true (pos n) (pos 0) t in absurd (omega arith)
-shifted_down s (negsuc n) t = ap (λ k. s / 2 ^ k) (omega (arith, abs_z (pos 0 -ℤ negsuc n), sub_z (pos 0) (negsuc n)))
+shifted_down s (negsuc n) t = refl
 
 pub own_magnitude : (f : Format) (s k u : ℕ) → s < 2 * 2 ^ f.frac → s / 2 ^ k ≡ u → u < units f (inf f) → s / 2 ^ k ≡ exactly f u
 own_magnitude f s k u l e h =

@@ -5,7 +5,7 @@ use native.Mathlib.Omega.{by_contra}
 use Rattle.algebra.proofs.Products.{order, times, times_le, mul_lt_cancel, mul_le_cancel}
 use Rattle.algebra.proofs.Powers.{pow_diff}
 use Rattle.algebra.proofs.Leading.{Fills}
-use Rattle.ieee.specs.Format.{Format, top, inf, units}
+use Rattle.ieee.specs.Format.{Format, inf, units}
 use Rattle.ieee.specs.Round.{even, exactly}
 use Rattle.ieee.proofs.Units.{units_at_lem, units_lt_inv}
 use Rattle.ieee.proofs.Fixed.{fixed_whole, below_reach}

@@ -11,13 +11,7 @@ pub fn clamp_exponent(reach: u32, n: i32) -> i32
     ensures { result ≡ clamp reach n }
 {
     let most = reach as i32;
-    if n > most {
-        return most;
-    }
-    if n < -1 - most {
-        return -1 - most;
-    }
-    n
+    n.clamp(-1 - most, most)
 }
 
 // The exponent field `at` moved by n. At 64 bits the sum cannot wrap, whatever n.
@@ -25,28 +19,19 @@ pub fn move_field(at: u64, n: i32) -> i64
     requires { at < 2 ^ 18 }
     ensures { result ≡ n +ℤ pos at }
 {
-    n as i64 + at as i64
+    i64::from(n) + at as i64
 }
 
 // The field itself, or 0 for a negative one.
 pub fn field_or_zero(to: i64) -> u64
     ensures { result ≡ above to }
 {
-    if to < 0 {
-        return 0;
-    }
-    to as u64
+    to.max(0) as u64
 }
 
 // How many bits of a significand lie below the smallest unit, where the field is 0 or less; 64, which is all of them, stands for any more.
 pub fn bits_below_unit(to: i64) -> u32
     ensures { result ≡ depth_of to }
 {
-    if to > -1 {
-        return 1;
-    }
-    if to < -62 {
-        return 64;
-    }
-    (1 - to) as u32
+    (1 - to.clamp(-63, 0)) as u32
 }

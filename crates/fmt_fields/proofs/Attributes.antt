@@ -1,25 +1,9 @@
 -- An attribute by its number: the calls that are done, and those that are refused. Assumes nothing.
 use Rattle.std.proofs.Common.{◌≡◌, ℕ, zero, suc, ◌≤◌, sym, refl, ◌∙◌, arith}
-use Rattle.ieee.specs.Round.{Attribute, ties_to_even, ties_to_away, toward_zero, toward_positive, toward_negative}
+use Rattle.ieee.specs.Round.{Attribute}
 use Rattle.ieee.specs.Flags.{Flags}
 use Rattle.ieee.specs.Rounded.{Rounded, answered, no_attribute, attributes, numbered}
 use Rattle.fmt_fields.specs.Numbered.{Names}
-
--- ---- the five
-pub zeroth : {n : ℕ} → n ≡ 0 → Names n ties_to_even
-zeroth e call = rw e refl
-
-pub first : {n : ℕ} → n ≡ 1 → Names n toward_zero
-first e call = rw e refl
-
-pub second : {n : ℕ} → n ≡ 2 → Names n toward_negative
-second e call = rw e refl
-
-pub third : {n : ℕ} → n ≡ 3 → Names n toward_positive
-third e call = rw e refl
-
-pub fourth : {n : ℕ} → n ≡ 4 → Names n ties_to_away
-fourth e call = rw e refl
 
 -- ---- a call that is done has the value and the flags of its attribute
 pub by_attribute : (n : ℕ) {a : Attribute} → Names n a → (R : Attribute → ℕ) (F : Attribute → Flags) {r : Rounded} {v : ℕ} {G : Flags}

@@ -4,8 +4,8 @@ use Rattle.ieee.specs.Flags as ieee
 use Rattle.ieee.specs.Round as ieee-round
 use Rattle.ieee.specs.Round.{ties_to_even, ties_to_away, toward_zero, toward_positive, toward_negative}
 use Rattle.fmt_fields.specs.declared.env.Raised.{Raised}
-use Rattle.fmt_fields.specs.declared.env.Attribute.{Attribute}
-use Rattle.fmt_fields.specs.declared.env.Attribute.TheVariants.{Even, Zero, Down, Up, Away}
+use Rattle.fmt_fields.specs.declared.attribute.Attribute.{Attribute}
+use Rattle.fmt_fields.specs.declared.attribute.Attribute.TheVariants.{Even, Zero, Down, Up, Away}
 
 -- whether the bit of a weight is set
 abbrev pub bit_at : ℕ → ℕ → Bool

@@ -1,16 +1,12 @@
 -- The code computes frexp and ilogb, over the format: a number by its normalised significand and its exponent, the rest by its magnitude. Assumes nothing.
-use Prim.Native.Nat.{ℕ, suc, ◌+◌, ◌-◌, ◌*◌, ◌^◌, ◌≤◌, ◌<◌}
-use mathlib.Core.Path.{◌≡◌, refl, sym, ap, ◌∙◌}
-use mathlib.Core.Bool.{Bool, true}
-use native.Mathlib.Omega.{arith}
-use lib.IntN.{ℤ, pos, ◌+ℤ◌, ◌-ℤ◌}
+use Rattle.std.proofs.Common.{◌≡◌, ℕ, suc, ◌+◌, ◌-◌, ◌*◌, ◌^◌, ◌<◌, ◌≤◌, Bool, true, ℤ, pos, ◌+ℤ◌, ◌-ℤ◌, refl, sym, ap, ◌∙◌, arith}
 use Rattle.algebra.proofs.Integers.{add_z, sub_z, eq_z}
 use Rattle.algebra.proofs.Products.{order, times}
-use Rattle.ieee.specs.Format.{Format, Fair, low, inf, canonical, units}
+use Rattle.ieee.specs.Format.{Format, Fair, top, low, inf, canonical, units}
 use Rattle.ieee.specs.Pattern.{minus, magnitude, signed, finite, kind}
 use Rattle.ieee.specs.Frexp.{no_exponent, past_exponents, ilogb_of, frexp_of, frexp_exponent}
 use Rattle.ieee.proofs.Units.{units_zero, units_lt}
-use Rattle.ieee.proofs.Patterns.{kind_nan, kind_infinite, kind_finite}
+use Rattle.ieee.proofs.Patterns.{inf_below_top, kind_nan, kind_infinite, kind_finite}
 use Rattle.ieee.proofs.Fields.{field_finite}
 use Rattle.ieee.proofs.Leads.{ilogb_rows}
 use Rattle.ieee.proofs.Significands.{Significand}
@@ -54,6 +50,14 @@ module _ (f : Format) (g : Fair f) (x : ℕ) (some : 0 < magnitude f x) (below :
       let s = significand u at e n in
       let (q, l) = exactly_packed f (sig_of f x) (half f) (sig_of f x * 2 ^ half f) n.most (λ z. n.least) refl (fraction_below f g three (suc u) (sig_of f x) at s) in
       (l, ap (signed f (minus f x)) q ∙ sym (frexp_by_lem f x u h g (sig_of f x) at s three))
+
+  -- the same, where h is the number of exponent fields up to that of 1, and p one unit of the field
+  pub frexp_in_words : 3 ≤ f.expo → (s h p : ℕ) → s ≡ sig_of f x → h ≡ 2 ^ (f.expo - 1) → p ≡ 2 ^ f.frac → (s + (h - 3) * p < top f) × (signed f (minus f x) (s + (h - 3) * p) ≡ frexp_of f x)
+  frexp_in_words three s h p a b c =
+      let e : h - 3 ≡ half f = omega (arith, b) in
+      let m : s + (h - 3) * p ≡ sig_of f x + half f * 2 ^ f.frac = (λ i. a i + e i * c i) in
+      let (l, q) = frexp_normalised three in
+      (omega (arith, m, l, inf_below_top f), ap (signed f (minus f x)) m ∙ q)
 
 -- ---- a normal number is normalised as it stands
 module _ (f : Format) (x : ℕ) (h : normal f x ≡ true) where

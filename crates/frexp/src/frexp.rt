@@ -1,76 +1,77 @@
 // frexp: a number as a fraction, from 1/2 up to 1, times a power of two.
 ghost use Rattle.std.specs.Prelude.{◌≡◌, true, ◌≤◌};
-ghost use Rattle.ieee.specs.Format.{b64, b32};
 ghost use Rattle.ieee.specs.Pattern.{Pattern};
 ghost use Rattle.ieee.specs.Frexp.{frexp_of, frexp_exponent};
-ghost use Rattle.fmt_fields.specs.Width.{format, Fits};
+ghost use Rattle.fmt_fields.specs.Layout.{format_of};
 ghost use Rattle.fmt_decode.specs.Aside.{aside};
 ghost use Rattle.fmt_decode.specs.Classes.{Nonzero, Finite};
 ghost use Rattle.fmt_decode.specs.Significand.{Normalised};
 
-use crate::answer::{Frexp32, Frexp64};
+use crate::answer::Frexp;
 use crate::ilogb::leading_exponent;
 use fmt_decode::norm::{Norm, is_zero_nan_inf, norm_of, unpack_normal};
-use fmt_fields::pattern::{infinity, magnitude_of, nan};
-use fmt_fields::{is_normal, with_sign};
+use fmt_fields::layout::Format;
+use fmt_fields::width::Width;
 use word_bits::pow;
 
 // A number: the fraction has its sign and its significand, and the exponent field of 1/2, of which the leading bit of the significand adds one.
-fn break_number(frac: u32, expo: u32, x: u64, n: Norm) -> Frexp64
-    requires { Fits frac expo × (3 ≤ expo) × Nonzero (format frac expo) x × Finite (format frac expo) x
-        × Normalised (format frac expo) x n.sig n.exp n.neg }
-    ensures { (result.fraction ≡ frexp_of (format frac expo) x) × (result.exponent ≡ frexp_exponent (format frac expo) x) }
+fn break_number(fmt: Format, x: u64, n: Norm) -> Frexp<u64>
+    requires three { 3 ≤ fmt.expo }
+    requires some { Nonzero (format_of fmt) x }
+    requires finite { Finite (format_of fmt) x }
+    requires normalised { Normalised (format_of fmt) x n.sig n.exp n.neg }
+    ensures fraction { result.fraction ≡ frexp_of (format_of fmt) x }
+    ensures exponent { result.exponent ≡ frexp_exponent (format_of fmt) x }
 {
-    let half = pow(expo - 1) - 3;
-    Frexp64 {
-        fraction: with_sign(frac, expo, n.neg, n.sig + half * pow(frac)),
-        exponent: leading_exponent(frac, expo, n) + 1,
+    let half = pow(fmt.expo - 1) - 3;
+    Frexp {
+        fraction: fmt.with_sign(n.neg, n.sig + half * pow(fmt.frac)),
+        exponent: leading_exponent(fmt, n) + 1,
     }
 }
 
 // A zero or an infinity is its own fraction.
-fn frexp_aside(frac: u32, expo: u32, x: u64) -> Frexp64
-    requires { Fits frac expo × (aside (format frac expo) x ≡ true) }
-    ensures { (result.fraction ≡ frexp_of (format frac expo) x) × (result.exponent ≡ frexp_exponent (format frac expo) x) }
+fn frexp_aside(fmt: Format, x: u64) -> Frexp<u64>
+    requires { aside (format_of fmt) x ≡ true }
+    ensures fraction { result.fraction ≡ frexp_of (format_of fmt) x }
+    ensures exponent { result.exponent ≡ frexp_exponent (format_of fmt) x }
 {
-    if magnitude_of(frac, expo, x) > infinity(frac, expo) {
-        return Frexp64 {
-            fraction: nan(frac, expo),
+    if fmt.magnitude_of(x) > fmt.infinity() {
+        return Frexp {
+            fraction: fmt.nan(),
             exponent: 0,
         };
     }
-    Frexp64 {
+    Frexp {
         fraction: x,
         exponent: 0,
     }
 }
 
 // Most numbers are normal, so that is asked first.
-fn frexp_pattern(frac: u32, expo: u32, x: u64) -> Frexp64
-    requires { Fits frac expo × (3 ≤ expo) × Pattern (format frac expo) x }
-    ensures { (result.fraction ≡ frexp_of (format frac expo) x) × (result.exponent ≡ frexp_exponent (format frac expo) x) × Pattern (format frac expo) result.fraction }
+fn frexp_pattern(fmt: Format, x: u64) -> Frexp<u64>
+    requires three { 3 ≤ fmt.expo }
+    requires held { Pattern (format_of fmt) x }
+    ensures fraction { result.fraction ≡ frexp_of (format_of fmt) x }
+    ensures exponent { result.exponent ≡ frexp_exponent (format_of fmt) x }
+    ensures held { Pattern (format_of fmt) result.fraction }
 {
-    if is_normal(frac, expo, x) {
-        return break_number(frac, expo, x, unpack_normal(frac, expo, x));
+    if fmt.is_normal(x) {
+        return break_number(fmt, x, unpack_normal(fmt, x));
     }
-    if is_zero_nan_inf(frac, expo, x) {
-        return frexp_aside(frac, expo, x);
+    if is_zero_nan_inf(fmt, x) {
+        return frexp_aside(fmt, x);
     }
-    break_number(frac, expo, x, norm_of(frac, expo, x))
+    break_number(fmt, x, norm_of(fmt, x))
 }
 
-pub fn frexp64(x: u64) -> Frexp64
-    ensures { (result.fraction ≡ frexp_of b64 x) × (result.exponent ≡ frexp_exponent b64 x) }
+pub fn frexp<W: Width>(x: W) -> Frexp<W>
+    ensures fraction { W.pattern result.fraction ≡ frexp_of W.layout (W.pattern x) }
+    ensures exponent { result.exponent ≡ frexp_exponent W.layout (W.pattern x) }
 {
-    frexp_pattern(52, 11, x)
-}
-
-pub fn frexp32(x: u32) -> Frexp32
-    ensures { (result.fraction ≡ frexp_of b32 x) × (result.exponent ≡ frexp_exponent b32 x) }
-{
-    let r = frexp_pattern(23, 8, x as u64);
-    Frexp32 {
-        fraction: r.fraction as u32,
-        exponent: r.exponent,
+    let broken = frexp_pattern(W::format(), x.widen());
+    Frexp {
+        fraction: W::narrow(broken.fraction),
+        exponent: broken.exponent,
     }
 }

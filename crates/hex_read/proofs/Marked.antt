@@ -14,7 +14,7 @@ use Rattle.round_step.specs.Mark.{Marks}
 use Rattle.round_step.proofs.Scaled.{scaled_alike, scaled_moves}
 use Rattle.round_step.proofs.MarkedAnswers.{sticky_answer}
 use Rattle.ieee_numeral_laws.specs.Read.{exact_numeral}
-use Rattle.hex_read.specs.declared.scan.Lead.{Lead}
+use Rattle.hex_read.specs.declared.lead.Lead.{Lead}
 use Rattle.hex_read.specs.declared.number.Number.{Number}
 use Rattle.hex_read.specs.Scanned.{Holds}
 use Rattle.hex_read.specs.Found.{marked, Reduces}
@@ -69,25 +69,23 @@ rounds_marked f a s v u c m k h =
 
 -- a number's exact value rounds as the significand and the power of two that the code has
 pub number_rounds : (f : Format) (a : Attribute) (s : Bool) (d k : ℕ) (e : ℤ) (r : Number) → f.frac ≤ 55 → Reduces d k e r
-    → answer f a s (scaled s r.sig (pos r.up +ℤ pos (low f) -ℤ pos r.down)) ≡ answer f a s (exact_numeral f s d k e)
+    → answer f a s (scaled s r.sig (r.exp +ℤ pos (low f))) ≡ answer f a s (exact_numeral f s d k e)
 number_rounds f a s d k e r l h =
     let at : ℤ = e +ℤ pos (low f) -ℤ pos (4 * k) in
     let half : ℤ = at -ℤ pos 1 in
     let o = sub_z at (pos 1) in
     let twice : answer f a s (scaled s d at) ≡ answer f a s (scaled s (2 * d) half) =
     scaled_alike f a s d (2 * d) at half (double d (up at + dn half) (up half + dn at) (omega arith)) in
-    let power : half +ℤ pos h.dropped ≡ pos r.up +ℤ pos (low f) -ℤ pos r.down = eq_z _ _ (omega (
+    let power : half +ℤ pos h.dropped ≡ r.exp +ℤ pos (low f) = eq_z _ _ (omega (
       arith,
       o,
       eq_z_fact h.power,
-      sub_z (pos r.up) (pos r.down),
       add_z e (pos h.dropped),
       sub_z (e +ℤ pos h.dropped) (pos (4 * k + 1)),
       add_z e (pos (low f)),
       sub_z (e +ℤ pos (low f)) (pos (4 * k)),
       add_z half (pos h.dropped),
-      add_z (pos r.up) (pos (low f)),
-      sub_z (pos r.up +ℤ pos (low f)) (pos r.down),
+      add_z r.exp (pos (low f)),
     )) in
     sym
     (twice

@@ -1,7 +1,7 @@
 -- What a scan of hexadecimal digits holds: the leading ones in a word, and a sticky mark for the others. Assumes nothing.
 use Rattle.std.specs.Prelude.{ℕ, ◌+◌, ◌*◌, ◌^◌, ◌≤◌, ◌<◌, ◌≡◌, true, false, List, drop}
 use Rattle.ieee_numeral_laws.specs.Reading.{run}
-use Rattle.hex_read.specs.declared.scan.Lead.{Lead}
+use Rattle.hex_read.specs.declared.lead.Lead.{Lead}
 use Rattle.hex_read.specs.declared.scan.Scan.{Scan}
 
 -- v is the number in the word, followed by digits that spell `rest`; the mark says whether that is not zero. None is dropped before the word is full

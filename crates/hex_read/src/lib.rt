@@ -2,6 +2,7 @@
 #![tactic(auto)]
 
 pub mod exponent;
+pub mod lead;
 pub mod number;
 pub mod numeral;
 pub mod read;

@@ -1,109 +1,71 @@
 // A number without its sign, from `0x` to the exponent, as a marked significand and a power of two.
-ghost use Rattle.std.specs.Prelude.{◌≡◌, Bool, false, cond, ℕ, ◌+◌, ◌*◌, ◌≤◌, ◌<◌, ◌^◌, length};
+ghost use Rattle.std.specs.Prelude.{◌≡◌, Bool, ℕ, ◌+◌, ◌*◌, ◌≤◌, ◌<◌, ◌^◌, length, pos, ◌+ℤ◌, ◌-ℤ◌};
+ghost use Rattle.std.specs.Int.Signed.{mag};
 ghost use Rattle.ieee_numeral_laws.specs.Reading.{end_by, point_by, unsigned_of};
 ghost use Rattle.hex_read.specs.Scanned.{Holds};
-ghost use Rattle.hex_read.specs.Found.{NumberAs, marked};
+ghost use Rattle.hex_read.specs.Found.{NumberAs};
 
 use crate::exponent::read_exponent;
-use crate::scan::{Lead, no_digits, scan_digits};
+use crate::lead::Lead;
+use crate::scan::scan_digits;
 
-// sig times 2^(up - down), sig with its sticky mark; not valid where the text is no number.
+// sig times 2^exp, sig with its sticky mark.
 #[derive(Clone, Copy)]
 pub struct Number {
-    pub valid: bool,
     pub sig: u64,
-    pub up: u64,
-    pub down: u64,
+    pub exp: i32,
 }
 
-fn no_number() -> Number
-    ensures { (result.valid ≡ false) × (result.sig ≡ 0) × (result.up ≡ 0) × (result.down ≡ 0) }
+// The power of two of a marked significand: a digit behind the point counts a sixteenth, one that was dropped sixteen times as much, and the mark half.
+fn power_of(exp: i32, extra: u32, behind: usize) -> i32
+    requires exp { mag exp < 10 ^ 5 }
+    requires extra { extra ≤ 64 }
+    requires behind { behind ≤ 64 }
+    ensures { result ≡ exp +ℤ pos (4 * extra) -ℤ pos (4 * behind + 1) }
 {
-    Number {
-        valid: false,
-        sig: 0,
-        up: 0,
-        down: 0,
-    }
+    exp + 4 * extra as i32 - (4 * behind as i32 + 1)
 }
 
-// The significand with the mark as its last bit.
-fn mark(sig: u64, sticky: bool) -> u64
-    requires { sig < 2 ^ 60 }
-    ensures { result ≡ marked sig sticky }
-{
-    if sticky { 2 * sig + 1 } else { 2 * sig }
-}
-
-// A size where it is wanted, else nothing.
-fn size_if(wanted: bool, size: u64) -> u64
-    ensures { result ≡ cond wanted size 0 }
-{
-    if wanted { size } else { 0 }
-}
-
-// `p` and the exponent, after n digits, k of them behind the point. A digit behind the point counts a sixteenth, one that was dropped sixteen times as much, and
-// the mark half.
-fn read_end(lead: Lead, n: usize, k: usize, s: &[u8]) -> Number
-    requires { (lead.sig < 2 ^ 60) × (lead.extra ≤ 64) × (k ≤ 64) }
+// `p` and the exponent, after n digits, k of them behind the point.
+fn read_end(lead: Lead, n: usize, k: usize, s: &[u8]) -> Option<Number>
+    requires extra { lead.extra ≤ 64 }
+    requires behind { k ≤ 64 }
     ensures { (neg : Bool) (d : ℕ) → Holds d lead → NumberAs neg (end_by neg d n k s.now) result }
 {
+    let [b'p', rest @ ..] = s else {
+        return None;
+    };
     if n == 0 {
-        return no_number();
+        return None;
     }
-    if s.len() == 0 {
-        return no_number();
-    }
-    if s[0] != b'p' {
-        return no_number();
-    }
-    let e = read_exponent(&s[1..]);
-    if !e.valid {
-        return no_number();
-    }
-    Number {
-        valid: true,
-        sig: mark(lead.sig, lead.sticky),
-        up: size_if(!e.neg, e.size) + 4 * lead.extra as u64,
-        down: size_if(e.neg, e.size) + (4 * k as u64 + 1),
-    }
+    let exp = read_exponent(rest)?;
+    Some(Number {
+        sig: lead.marked(),
+        exp: power_of(exp, lead.extra, k),
+    })
 }
 
 // The point and the digits behind it, if any, and the end, after n digits.
-fn read_point(lead: Lead, n: usize, s: &[u8]) -> Number
-    requires { (lead.sig < 2 ^ 60) × (lead.extra ≤ n) × (n + length s.now ≤ 64) }
+fn read_point(lead: Lead, n: usize, s: &[u8]) -> Option<Number>
+    requires extra { lead.extra ≤ n }
+    requires all { n + length s.now ≤ 64 }
     ensures { (neg : Bool) (d : ℕ) → Holds d lead → NumberAs neg (point_by neg d n s.now) result }
 {
-    if s.len() == 0 {
-        return no_number();
-    }
-    if s[0] != b'.' {
+    let [b'.', rest @ ..] = s else {
         return read_end(lead, n, 0, s);
-    }
-    let rest = &s[1..];
-    let c = scan_digits(rest, lead);
-    let end = c.end;
-    let all = c.lead;
-    read_end(all, n + end, end, &rest[end..])
+    };
+    let behind = scan_digits(rest, lead);
+    read_end(behind.lead, n + behind.end, behind.end, &rest[behind.end..])
 }
 
 // All of s.
-pub fn read_number(s: &[u8]) -> Number
+pub fn read_number(s: &[u8]) -> Option<Number>
     requires { length s.now ≤ 64 }
     ensures { (neg : Bool) → NumberAs neg (unsigned_of neg s.now) result }
 {
-    if s.len() < 2 {
-        return no_number();
-    }
-    if s[0] != b'0' {
-        return no_number();
-    }
-    if s[1] != b'x' {
-        return no_number();
-    }
-    let rest = &s[2..];
-    let c = scan_digits(rest, no_digits());
-    let end = c.end;
-    let lead = c.lead;
-    read_point(lead, end, &rest[end..])
+    let [b'0', b'x', rest @ ..] = s else {
+        return None;
+    };
+    let ahead = scan_digits(rest, Lead::none());
+    read_point(ahead.lead, ahead.end, &rest[ahead.end..])
 }

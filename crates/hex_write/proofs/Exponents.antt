@@ -6,7 +6,9 @@ use mathlib.Core.List.{List, [], ◌∷◌, ◌++◌}
 use native.Mathlib.Nat.{pow-suc, one-le-pow}
 use native.Mathlib.Omega.{arith}
 use borrow.Author.Tests.{lt-ltb, le-ltb}
-use lib.Pow.{pow-add}
+use lib.Dec.{ltb}
+use lib.Pow.{pow-add, pow_pos, pow_mono}
+use Rattle.std.specs.Int.{abs_diff}
 use lib.IntN.{pos, negsuc, ◌-ℤ◌}
 use Rattle.algebra.proofs.Integers.{sub_z, eq_z}
 use Rattle.algebra.proofs.Products.{order, le_split}
@@ -61,15 +63,24 @@ fewest_few n j l w = order j 5 (λ h. h) (λ h. absurd (past (le_split h)))
 
 -- ---- behind the sign
 module _ (e q : ℕ) where
-  pub exponent_above : (n j : ℕ) → n + (2 ^ (e - 1) - 1) ≡ q → n < 100000 → Fewest n j → ExponentOf e q false j n
+  exponent_above : (n j : ℕ) → n + (2 ^ (e - 1) - 1) ≡ q → n < 100000 → Fewest n j → ExponentOf e q false j n
   unfolding exponent_text
   exponent_above n j s l w =
       let z : pos q -ℤ pos (2 ^ (e - 1) - 1) ≡ pos n = eq_z (pos q -ℤ pos (2 ^ (e - 1) - 1)) (pos n) (omega (arith, sub_z (pos q) (pos (2 ^ (e - 1) - 1)))) in
       record { digits = ap (λ (d : List ℕ). 43 ∷ d) (decimal_digits 4 n j (fewest_few n j l w) w) ∙ ap exponent_text (sym z); few = fewest_few n j l w }
 
-  pub exponent_below : (n j : ℕ) → n + q ≡ 2 ^ (e - 1) - 1 → 0 < n → n < 100000 → Fewest n j → ExponentOf e q true j n
+  exponent_below : (n j : ℕ) → n + q ≡ 2 ^ (e - 1) - 1 → 0 < n → n < 100000 → Fewest n j → ExponentOf e q true j n
   unfolding exponent_text
   exponent_below zero j s p l w = absurd (omega arith)
   exponent_below (suc n) j s p l w =
       let z : pos q -ℤ pos (2 ^ (e - 1) - 1) ≡ negsuc n = eq_z (pos q -ℤ pos (2 ^ (e - 1) - 1)) (negsuc n) (omega (arith, sub_z (pos q) (pos (2 ^ (e - 1) - 1)))) in
       record { digits = ap (λ (d : List ℕ). 45 ∷ d) (decimal_digits 4 (suc n) j (fewest_few (suc n) j l w) w) ∙ ap exponent_text (sym z); few = fewest_few (suc n) j l w }
+
+-- a field's exponent, b being the bias and one
+pub exponent_parted : (e q b n j : ℕ) → e ≤ 16 → q < 2 ^ e → b ≡ 2 ^ (e - 1) → n ≡ abs_diff q (b - 1) → Fewest n j → ExponentOf e q (ltb q (b - 1)) j n
+exponent_parted e q b n j small l i d w =
+    let most = pow_mono {i = e} {j = 16} small in
+    let half = pow_mono {i = e - 1} {j = 16} (omega arith) in
+    order (b - 1) q
+    (λ h. rw (le-ltb q (b - 1) h) (exponent_above e q n j (omega (arith, pow_pos (e - 1))) (omega (arith, pow_pos (e - 1))) w))
+    (λ h. rw (lt-ltb q (b - 1) h) (exponent_below e q n j (omega (arith, pow_pos (e - 1))) (omega arith) (omega arith) w))

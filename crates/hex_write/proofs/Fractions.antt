@@ -26,6 +26,9 @@ pub record Aligned (p e t u : ℕ) : Type 0 where
   pub small : t < 2 ^ p
   pub shift : u ≡ 2 ^ (4 * ((p + 3) / 4) - p)
 
+pub aligned : {p e t u : ℕ} → Fits p e → (t ≡ 0 → ⊥) → t < 2 ^ p → u ≡ 2 ^ (4 * ((p + 3) / 4) - p) → Aligned p e t u
+aligned f n l i = record { fits = f; some = n; small = l; shift = i }
+
 module _ {p e t u : ℕ} (w : Aligned p e t u) where
   abbrev all : ℕ
   all = (p + 3) / 4

@@ -1,12 +1,11 @@
 -- Laws of bytes put into a room that holds them: one byte, none, what a writer placed, and one part behind the other. Assumes nothing.
 use Prim.Native.Nat.{ℕ, ◌+◌, ◌≤◌, ◌<◌}
-use mathlib.Core.Path.{◌≡◌, refl, sym, ap, ◌∙◌, subst}
-use mathlib.Core.List.{List, [], ◌∷◌, ◌++◌, append_assoc}
-use native.Mathlib.Numerals.{add-one}
+use mathlib.Core.Path.{◌≡◌, sym, ap, ◌∙◌, subst}
+use mathlib.Core.List.{List, [], ◌++◌, append_assoc}
 use native.Mathlib.Nat.{zero-add}
 use native.Mathlib.Omega.{arith}
-use lib.ListN.{length, take, drop, set, length-append, take-append-drop}
-use lib.Seq.{take-length, length-take-le, set_split, take_at, drop_at, drop-drop}
+use lib.ListN.{length, take, drop, length-append, take-append-drop}
+use lib.Seq.{take-length, length-take-le, take_at, drop_at, drop-drop}
 use borrow.Author.Tests.{le-leb, lt-ltb}
 use Rattle.text_numbers.specs.Digits.{glyph_of}
 use Rattle.text_numbers.specs.Placed.{Placed}
@@ -16,9 +15,6 @@ pub put_none : (xs : List ℕ) (at : ℕ) → Put xs at [] xs at
 put_none xs at =
     let e : at + 0 ≡ at = omega arith in
     record { bytes = sym (ap (λ (n : ℕ). take at xs ++ drop n xs) e ∙ take-append-drop at xs); offset = omega arith }
-
-pub put_store : (xs : List ℕ) (at c : ℕ) → at < length xs → Put xs at (c ∷ []) (set xs at c) (at + 1)
-put_store xs at c l = record { bytes = set_split xs at c l ∙ ap (λ (n : ℕ). take at xs ++ (c ∷ drop n xs)) (sym (add-one at)); offset = refl }
 
 -- all or nothing, where there is room, is all
 pub put_placed : {xs : List ℕ} {at : ℕ} {p xs' : List ℕ} {at' : ℕ} → at + length p ≤ length xs → Placed xs at p xs' at' → Put xs at p xs' at'

@@ -63,6 +63,9 @@ pub record Taken (f : Format) (x : ℕ) (neg : Bool) (q t : ℕ) : Type 0 where
   pub exponent : q ≡ field f x
   pub rest : t ≡ fraction f x
 
+pub taken : (f : Format) (x : ℕ) {neg : Bool} {q t : ℕ} → neg ≡ minus f x → q ≡ field f x → t ≡ fraction f x → Taken f x neg q t
+taken f x s e r = record { sign = s; exponent = e; rest = r }
+
 module _ (f : Format) (x : ℕ) where
   text_by_lem : {k : Kind} → kind f x ≡ k → text_by f x k ≡ text_of f x
   unfolding text_of

@@ -1,8 +1,9 @@
 // The parts of a number's text: the digits behind the point, and the exponent.
 ghost use Rattle.std.specs.Prelude.{◌^◌, ◌≤◌, ◌<◌};
-ghost use Rattle.fmt_fields.specs.Width.{format, Fits};
+ghost use Rattle.fmt_fields.specs.Layout.{format_of};
 ghost use Rattle.hex_write.specs.Parts.{FractionOf, ExponentOf};
 
+use fmt_fields::layout::Format;
 use text_numbers::write::digit_count;
 use word_bits::pow;
 
@@ -22,9 +23,9 @@ pub struct Exponent {
 }
 
 // The digits of a fraction t, whose bits stand in them from the left, without the zeros at their end.
-pub fn fraction_part(frac: u32, expo: u32, t: u64) -> Fraction
-    requires { Fits frac expo × (t < 2 ^ frac) }
-    ensures { FractionOf (format frac expo) t result.count result.digits }
+pub fn fraction_part(fmt: Format, t: u64) -> Fraction
+    requires { t < 2 ^ fmt.frac }
+    ensures { FractionOf (format_of fmt) t result.count result.digits }
 {
     if t == 0 {
         return Fraction {
@@ -32,9 +33,9 @@ pub fn fraction_part(frac: u32, expo: u32, t: u64) -> Fraction
             count: 0,
         };
     }
-    let all = (frac + 3) / 4;
-    let aligned = t * pow(4 * all - frac);
-    let zeros = u64::trailing_zeros(aligned) / 4;
+    let all = (fmt.frac + 3) / 4;
+    let aligned = t * pow(4 * all - fmt.frac);
+    let zeros = aligned.trailing_zeros() / 4;
     Fraction {
         digits: aligned / pow(4 * zeros),
         count: (all - zeros) as usize,
@@ -43,22 +44,16 @@ pub fn fraction_part(frac: u32, expo: u32, t: u64) -> Fraction
 
 // The exponent of a number by its exponent field, which is 1 for a subnormal number too.
 pub fn exponent_part(expo: u32, field: u64) -> Exponent
-    requires { (2 ≤ expo) × (expo ≤ 16) × (field < 2 ^ expo) }
+    requires least { 2 ≤ expo }
+    requires most { expo ≤ 16 }
+    requires field { field < 2 ^ expo }
     ensures { ExponentOf expo field result.below result.count result.size }
 {
     let bias = pow(expo - 1) - 1;
-    if field < bias {
-        let size = bias - field;
-        return Exponent {
-            below: true,
-            size: size,
-            count: digit_count(size),
-        };
-    }
-    let size = field - bias;
+    let size = field.abs_diff(bias);
     Exponent {
-        below: false,
-        size: size,
+        below: field < bias,
+        size,
         count: digit_count(size),
     }
 }

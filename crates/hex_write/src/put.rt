@@ -30,12 +30,13 @@ pub fn put_sign(out: &mut [u8], neg: bool) -> usize
 
 // `0x` and the digit before the point.
 pub fn put_head(out: &mut [u8], at: usize, lead: u64) -> usize
-    requires { (lead < 2) × (at + 3 ≤ length out.old) }
+    requires lead { lead < 2 }
+    requires room { at + 3 ≤ length out.old }
     ensures { Put out.old at (head_text lead) out.new result }
 {
     let letter = put_byte(out, at, b'0');
     let digit = put_byte(out, letter, b'x');
-    put_byte(out, digit, 48 + lead as u8)
+    put_byte(out, digit, b'0' + lead as u8)
 }
 
 // The point and the digits behind it, if there are any.

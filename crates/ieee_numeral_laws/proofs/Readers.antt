@@ -16,7 +16,8 @@ use Rattle.ieee.proofs.Decide.{split, eqb_reads}
 use Rattle.ieee.proofs.Refusals.{given_first, given_none, first_here, first_later, none_later, none_last, Tells, tells, tells_not, ltb_tells, either, same_at}
 use Rattle.ieee.proofs.Attributes.{answer_met, answer_met_unique}
 use Rattle.ieee_numeral_laws.specs.Numeral.{Numeral, number, infinity, not_a_number, Says}
-use Rattle.ieee_numeral_laws.specs.Reading.{Perhaps, just, nothing, numeral_of}
+use Rattle.std.specs.Prelude.{Option, Some, None}
+use Rattle.ieee_numeral_laws.specs.Reading.{numeral_of}
 use Rattle.ieee_numeral_laws.specs.Read.{exact_numeral, value_in, outside, read_refusals, read_by, read_in, read_of, read_rounded}
 use Rattle.ieee_numeral_laws.specs.ReadRule.{InGrammar, ReadRefusals, ReadValue, ReadAs}
 use Rattle.ieee_numeral_laws.proofs.Said.{nothing_said}
@@ -92,17 +93,17 @@ module _ (s : List ℕ) (unread : Tells (InGrammar s → ⊥) (InGrammar s) (out
 unread : (s : List ℕ) → Tells (InGrammar s → ⊥) (InGrammar s) (outside (numeral_of s))
 unread s = go (numeral_of s) refl
   where
-    go : (p : Perhaps Numeral) → numeral_of s ≡ p → Tells (InGrammar s → ⊥) (InGrammar s) (outside p)
-    go (just m) e = let g : InGrammar s = record { numeral = m; says = says_what_is_read s m e } in tells_not (λ n. n g) g
-    go nothing e = let n : InGrammar s → ⊥ = λ g. nothing_said (sym e ∙ reads_what_it_says g.says) in tells n n
+    go : (p : Option Numeral) → numeral_of s ≡ p → Tells (InGrammar s → ⊥) (InGrammar s) (outside p)
+    go (Some m) e = let g : InGrammar s = record { numeral = m; says = says_what_is_read s m e } in tells_not (λ n. n g) g
+    go None e = let n : InGrammar s → ⊥ = λ g. nothing_said (sym e ∙ reads_what_it_says g.says) in tells n n
 
 -- the answer's number is the refusal's
-number_by : (f : Format) (a : Attribute) (p : Perhaps Numeral) (k : ℕ) → (k ≡ 0 → p ≡ nothing → ⊥) → number_of (read_by f a p k) ≡ k
+number_by : (f : Format) (a : Attribute) (p : Option Numeral) (k : ℕ) → (k ≡ 0 → p ≡ None → ⊥) → number_of (read_by f a p k) ≡ k
 unfolding read_by
-number_by f a (just m) zero n = refl
-number_by f a nothing zero n = absurd (n refl refl)
-number_by f a (just m) (suc k) n = refl
-number_by f a nothing (suc k) n = refl
+number_by f a (Some m) zero n = refl
+number_by f a None zero n = absurd (n refl refl)
+number_by f a (Some m) (suc k) n = refl
+number_by f a None (suc k) n = refl
 
 number_is : (f : Format) (a : Attribute) (s : List ℕ) → InRefusals s (given (read_refusals s)) → number_of (read_in f a s) ≡ given (read_refusals s)
 unfolding read_in
@@ -112,7 +113,7 @@ in_refusals : (f : Format) (a : Attribute) (s : List ℕ) → InRefusals s (numb
 in_refusals f a s = let r = given_refusals s (unread s) in subst (InRefusals s) (sym (number_is f a s r)) r
 
 -- ---- the answer, by the text's length and what is read of it
-read_by_lem : (f : Format) (a : Attribute) (s : List ℕ) (p : Perhaps Numeral) (k : ℕ) → numeral_of s ≡ p → given (read_refusals s) ≡ k → read_in f a s ≡ read_by f a p k
+read_by_lem : (f : Format) (a : Attribute) (s : List ℕ) (p : Option Numeral) (k : ℕ) → numeral_of s ≡ p → given (read_refusals s) ≡ k → read_in f a s ≡ read_by f a p k
 unfolding read_in
 read_by_lem f a s p k e g = ap₂ (read_by f a) e g
 
@@ -121,13 +122,13 @@ module _ (f : Format) (a : Attribute) (s : List ℕ) where
   unfolding read_by
   read_too_long l = read_by_lem f a s (numeral_of s) 6 refl ((given_refusals s (unread s)).six.1 l)
 
-  pub read_outside : length s ≤ 64 → numeral_of s ≡ nothing → read_in f a s ≡ refused 7
+  pub read_outside : length s ≤ 64 → numeral_of s ≡ None → read_in f a s ≡ refused 7
   unfolding read_by
-  read_outside l e = read_by_lem f a s nothing 7 e ((given_refusals s (unread s)).seven.1 (l, λ g. nothing_said (sym e ∙ reads_what_it_says g.says)))
+  read_outside l e = read_by_lem f a s None 7 e ((given_refusals s (unread s)).seven.1 (l, λ g. nothing_said (sym e ∙ reads_what_it_says g.says)))
 
-  pub read_done : (m : Numeral) → length s ≤ 64 → numeral_of s ≡ just m → read_in f a s ≡ done (value_in f a m)
+  pub read_done : (m : Numeral) → length s ≤ 64 → numeral_of s ≡ Some m → read_in f a s ≡ done (value_in f a m)
   unfolding read_by
-  read_done m l e = read_by_lem f a s (just m) 0 e ((given_refusals s (unread s)).none.1 (l, record { numeral = m; says = says_what_is_read s m e }))
+  read_done m l e = read_by_lem f a s (Some m) 0 e ((given_refusals s (unread s)).none.1 (l, record { numeral = m; says = says_what_is_read s m e }))
 
 -- ---- the refusals by the attribute's number
 known_attribute : {n k : ℕ} {s : List ℕ} → n < 5 → InRefusals s k → ReadRefusals n s k

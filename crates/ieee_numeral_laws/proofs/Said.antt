@@ -10,14 +10,15 @@ use lib.IntN.{ℤ, pos, neg_ℤ}
 use borrow.Author.Tests.{eq-eqb, ne_eqb, leb-true, eqb-true}
 use Rattle.ieee.proofs.Decide.{split, eqb_reads}
 use Rattle.ieee_numeral_laws.specs.Numeral.{Numeral, number, Significand, whole, pointed, Few, Exponent, raised, lowered, Unsigned, constant, plus, dash, point, letter_p, prefix}
-use Rattle.ieee_numeral_laws.specs.Reading.{Perhaps, just, nothing, Run, run, at_end, few_by, few_of, exponent_of, with_exponent, end_by, point_by, unsigned_of}
+use Rattle.std.specs.Prelude.{Option, Some, None}
+use Rattle.ieee_numeral_laws.specs.Reading.{Run, run, at_end, few_by, few_of, exponent_of, with_exponent, end_by, point_by, unsigned_of}
 use Rattle.ieee_numeral_laws.proofs.Digits.{parts, Taken, run_taken}
 
 -- ---- a test before something has passed
-pub nothing_said : {A : Type 0} {x : A} {G : Type 0} → nothing ≡ just x → G
+pub nothing_said : {A : Type 0} {x : A} {G : Type 0} → None ≡ Some x → G
 nothing_said h = let never : ◌≡◌ {A = ℕ} 0 1 = cc in absurd (omega arith)
 
-passed : {A : Type 0} {x : Perhaps A} {y : A} (b : Bool) → cond b x nothing ≡ just y → (b ≡ true) × (x ≡ just y)
+passed : {A : Type 0} {x : Option A} {y : A} (b : Bool) → cond b x None ≡ Some y → (b ≡ true) × (x ≡ Some y)
 passed true h = (refl, h)
 passed false h = nothing_said h
 
@@ -37,7 +38,7 @@ counted n limit end h =
     let (some, most) = (and-eq-true_iff (leb 1 n) (leb n limit)).0 count in
     (leb-true 1 n some, leb-true n limit most, ends)
 
-few_said : (sign : ℕ → ℤ) (s : List ℕ) (e : ℤ) → few_of sign s ≡ just e → FewSaid sign s e
+few_said : (sign : ℕ → ℤ) (s : List ℕ) (e : ℤ) → few_of sign s ≡ Some e → FewSaid sign s e
 unfolding few_of few_by
 few_said sign s e h =
     let r : Run = run 10 0 0 s in
@@ -49,7 +50,7 @@ few_said sign s e h =
     let few : Few t.digits t.spells = record { digits = t.are_digits; some = omega (arith, t.count); most = omega (arith, t.count) } in
     record { n = t.spells; few = subst (λ l. Few l t.spells) (sym all) few; is = ap sign spelt ∙ cc is }
 
-exponent_said : (s : List ℕ) (e : ℤ) → exponent_of s ≡ just e → Exponent s e
+exponent_said : (s : List ℕ) (e : ℤ) → exponent_of s ≡ Some e → Exponent s e
 unfolding exponent_of
 exponent_said [] e h = nothing_said h
 exponent_said (c ∷ s) e h =
@@ -68,11 +69,11 @@ record EndSaid (neg : Bool) (d n k : ℕ) (s : List ℕ) (m : Numeral) : Type 0 
   exponent : Exponent tail e
   is : number neg d k e ≡ m
 
-with_said : (neg : Bool) (d k : ℕ) (p : Perhaps ℤ) (m : Numeral) → with_exponent neg d k p ≡ just m → (e : ℤ) × (p ≡ just e) × (number neg d k e ≡ m)
-with_said neg d k (just e) m h = (e, refl, cc)
-with_said neg d k nothing m h = nothing_said h
+with_said : (neg : Bool) (d k : ℕ) (p : Option ℤ) (m : Numeral) → with_exponent neg d k p ≡ Some m → (e : ℤ) × (p ≡ Some e) × (number neg d k e ≡ m)
+with_said neg d k (Some e) m h = (e, refl, cc)
+with_said neg d k None m h = nothing_said h
 
-end_said : (neg : Bool) (d n k : ℕ) (s : List ℕ) (m : Numeral) → end_by neg d n k s ≡ just m → EndSaid neg d n k s m
+end_said : (neg : Bool) (d n k : ℕ) (s : List ℕ) (m : Numeral) → end_by neg d n k s ≡ Some m → EndSaid neg d n k s m
 unfolding end_by
 end_said neg d n k [] m h = nothing_said h
 end_said neg d n k (c ∷ s) m h =
@@ -116,7 +117,7 @@ module _ (neg : Bool) (s : List ℕ) (m : Numeral) where
       }
 
   -- by what follows the n digits that spell v
-  rest_said : (v n : ℕ) (u : List ℕ) → Taken 16 0 0 s (parts v n u) → point_by neg v n u ≡ just m → UnsignedSaid neg (prefix ++ s) m
+  rest_said : (v n : ℕ) (u : List ℕ) → Taken 16 0 0 s (parts v n u) → point_by neg v n u ≡ Some m → UnsignedSaid neg (prefix ++ s) m
   unfolding point_by
   rest_said v n [] t h = nothing_said h
   rest_said v n (c ∷ u) t h =
@@ -125,7 +126,7 @@ module _ (neg : Bool) (s : List ℕ) (m : Numeral) where
       pointed_said t p (run_taken 16 v 0 u) (end_said neg r.spelt (n + r.count) r.count r.rest m (rw (eq-eqb c point p) at h)))
       (λ p. whole_said t (end_said neg v n 0 (c ∷ u) m (rw (ne_eqb c point p) at h)))
 
-pub unsigned_said : (neg : Bool) (s : List ℕ) (m : Numeral) → unsigned_of neg s ≡ just m → UnsignedSaid neg s m
+pub unsigned_said : (neg : Bool) (s : List ℕ) (m : Numeral) → unsigned_of neg s ≡ Some m → UnsignedSaid neg s m
 unfolding unsigned_of
 unsigned_said neg [] m h = nothing_said h
 unsigned_said neg (b ∷ []) m h = nothing_said h

@@ -11,7 +11,7 @@ use Rattle.algebra.proofs.Integers.{up, dn, add_z, sub_z}
 use Rattle.ieee.specs.Format.{Format, low}
 use Rattle.ieee.specs.Pattern.{signed, with_sign}
 use Rattle.ieee.specs.Exact.{Value, dyadic, surd, sign_of, ratio}
-use Rattle.ieee.specs.Round.{Way, Attribute, way_of, rounded, answer}
+use Rattle.ieee.specs.Round.{Attribute, way_of, rounded, answer}
 use Rattle.ieee.specs.Scalbn.{scaled}
 use Rattle.ieee.proofs.Rises.{ratio_same}
 use Rattle.ieee.proofs.Signs.{signed_abs, signed_times, signed_tells}

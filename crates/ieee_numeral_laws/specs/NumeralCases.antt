@@ -1,10 +1,10 @@
 -- Worked cases of the reader and the writer. Assumes nothing.
-use Rattle.std.specs.Prelude.{ℕ, ◌≡◌, true, false, List, [], ◌∷◌, ◌++◌, pos, negsuc}
+use Rattle.std.specs.Prelude.{ℕ, ◌≡◌, true, negsuc, Some}
 use Prim.Native.String.{String}
 use Rattle.ieee.specs.Format.{Format, b16, b32, b64}
-use Rattle.ieee.specs.Refusal.{Answer, done, refused}
+use Rattle.ieee.specs.Refusal.{done, refused}
 use Rattle.ieee_numeral_laws.specs.Numeral.{number, bytes_of}
-use Rattle.ieee_numeral_laws.specs.Reading.{just, nothing, numeral_of}
+use Rattle.ieee_numeral_laws.specs.Reading.{numeral_of}
 use Rattle.ieee_numeral_laws.specs.Read.{read_of, read_rounded}
 use Rattle.ieee_numeral_laws.specs.Write.{text_of, write_of}
 
@@ -27,7 +27,7 @@ pub record Values (f : Format) (s : String) (x₀ x₁ x₂ x₃ x₄ : ℕ) : T
 
 pub record NumeralCases : Type 0 where
   -- ---- the parts of a text
-  pub parts : numeral_of (bytes_of "-0x1.8p-3") ≡ just (number true 24 1 (negsuc 2))
+  pub parts : numeral_of (bytes_of "-0x1.8p-3") ≡ Some (number true 24 1 (negsuc 2))
   -- ---- values
   pub three : Value b64 "0x1.8p+1" 0x4008000000000000
   pub point_first : Value b64 "+0x.8p0" 0x3fe0000000000000

@@ -1,5 +1,5 @@
 -- The reader: what a text says, rounded once under an attribute, or a refusal. Assumes nothing.
-use Rattle.std.specs.Prelude.{ℕ, zero, suc, ◌*◌, Bool, true, false, List, [], ◌∷◌, ltb, length, ℤ, pos, ◌+ℤ◌, ◌-ℤ◌}
+use Rattle.std.specs.Prelude.{ℕ, zero, suc, ◌*◌, Bool, true, false, List, [], ◌∷◌, ltb, length, ℤ, pos, ◌+ℤ◌, ◌-ℤ◌, Option, Some, None}
 use Rattle.ieee.specs.Format.{Format, low, inf, canonical}
 use Rattle.ieee.specs.Pattern.{signed}
 use Rattle.ieee.specs.Exact.{Value}
@@ -8,7 +8,7 @@ use Rattle.ieee.specs.Scalbn.{scaled}
 use Rattle.ieee.specs.Rounded.{attributes}
 use Rattle.ieee.specs.Refusal.{Refusal, given, Answer, done, refused}
 use Rattle.ieee_numeral_laws.specs.Numeral.{Numeral, number, infinity, not_a_number}
-use Rattle.ieee_numeral_laws.specs.Reading.{Perhaps, just, nothing, numeral_of}
+use Rattle.ieee_numeral_laws.specs.Reading.{numeral_of}
 
 -- the most bytes of a text
 abbrev pub text_limit : ℕ
@@ -26,18 +26,18 @@ value_in f a (infinity s) = signed f s (inf f)
 value_in f a not_a_number = canonical f
 
 -- ---- the refusals
-abbrev pub outside : Perhaps Numeral → Bool
-outside (just n) = false
-outside nothing = true
+abbrev pub outside : Option Numeral → Bool
+outside (Some n) = false
+outside None = true
 
 abbrev pub read_refusals : List ℕ → List Refusal
 read_refusals s = record { number = 6; reason = ltb text_limit (length s) } ∷ record { number = 7; reason = outside (numeral_of s) } ∷ []
 
 -- ---- the answer, by the refusal's number and what the text says
-unfoldable pub read_by : Format → Attribute → Perhaps Numeral → ℕ → Answer
+unfoldable pub read_by : Format → Attribute → Option Numeral → ℕ → Answer
 unfolding value_in
-read_by f a (just n) zero = done (value_in f a n)
-read_by f a nothing zero = refused 7
+read_by f a (Some n) zero = done (value_in f a n)
+read_by f a None zero = refused 7
 read_by f a p (suc k) = refused (suc k)
 
 unfoldable pub read_in : Format → Attribute → List ℕ → Answer

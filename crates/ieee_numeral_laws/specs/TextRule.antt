@@ -1,5 +1,5 @@
 -- What the text of a pattern is held to: what it says is the pattern's value, to the last bit, in the digits that are needed. Assumes nothing.
-use Rattle.std.specs.Prelude.{ℕ, suc, ◌+◌, ◌*◌, ◌/◌, ◌%◌, ◌^◌, ◌≤◌, ◌≡◌, cond, List, length, eqb, ℤ, pos, nat_abs, ◌-ℤ◌}
+use Rattle.std.specs.Prelude.{ℕ, suc, ◌+◌, ◌/◌, ◌%◌, ◌^◌, ◌≤◌, ◌≡◌, cond, List, length, eqb, ℤ, pos, nat_abs, ◌-ℤ◌}
 use Rattle.text_numbers.specs.Written.{Fewest}
 use Rattle.ieee.specs.Format.{Format, bias}
 use Rattle.ieee.specs.Pattern.{nan, infinite, finite, kind, minus, field, value}

@@ -4,6 +4,7 @@ use lib.Bits.{bit_and}
 use borrow.Author.Tests.{lt-leb}
 use Rattle.algebra.proofs.Products.{order, times, times_le}
 use Rattle.algebra.proofs.Quotients.{div_mod, div_is}
+use Rattle.algebra.proofs.Powers.{pow_diff}
 use Rattle.ieee.specs.Format.{Format, Fair, top, bias, inf, low, units}
 use Rattle.ieee.specs.Pattern.{Pattern, minus, magnitude, field, signed, finite}
 use Rattle.ieee.specs.Round.{Way, shorter, longer, Attribute, toward_positive, toward_negative, way_of}
@@ -160,11 +161,7 @@ ones_by false r n l e z = omega arith
 pub sign_in_words : (f : Format) (x r : ℕ) → Pattern f x → r < 2 ^ 64 → (r + x / top f) % 2 ^ 64 ≡ 0 → r ≡ ones_if (minus f x)
 sign_in_words f x r i l z = ones_by (minus f x) r (x / top f) l (sign_is f x i) z
 
-pub other_ones : (b : Bool) → 2 ^ 64 - 1 - ones_if b ≡ ones_if (not b)
-other_ones true = omega arith
-other_ones false = omega arith
-
--- a word under it
+-- a word under ones or none
 pub under_ones_if : (b : Bool) (v : ℕ) → v < 2 ^ 64 → bit_and v (ones_if b) ≡ cond b v 0
 under_ones_if true v l = under_ones v l
 under_ones_if false v l = under_none v
@@ -221,8 +218,27 @@ pub cut_in_words : (a : Bool) (x b r : ℕ) → x < 2 ^ 64 → b < 2 ^ 64 → r 
 unfolding cut_by
 cut_in_words true x b r l i j m z =
     let d : ℕ = suc b in
-    omega (arith, z, ones_without b i m, div_mod ((x + (2 ^ 64 - 1)) % 2 ^ 64) d (omega arith))
+    omega (arith, z, ones_without b m, div_mod ((x + (2 ^ 64 - 1)) % 2 ^ 64) d (omega arith))
 cut_in_words false x b r l i j m z =
     let d : ℕ = suc b in
     let y : (x + 0) % 2 ^ 64 ≡ x = omega arith in
     omega (arith, z, div_mod 0 d (omega arith), ap (λ n. n / d * d) y, div_mod x d (omega arith))
+
+-- and the wrapped difference itself
+pub cut_wrapped : (a : Bool) (x b u v : ℕ) → x < 2 ^ 64 → Mask b → u ≡ (x + ones_if a) % 2 ^ 64 / suc b * suc b → v ≡ ones_if a / suc b * suc b →
+    (u + (2 ^ 64 - v)) % 2 ^ 64 ≡ cut_by a x b
+unfolding cut_by
+cut_wrapped true x b u v l (k, f) e z =
+    let d : ℕ = suc b in
+    let n : ℕ = (x + (2 ^ 64 - 1)) % 2 ^ 64 in
+    let o = ones_without b (k, f) in
+    order k 64
+    (λ h. omega (arith, e, z, o, f, pow_mono {i = k} {j = 64} h))
+    (λ h.
+    let p = pow_mono {i = 65} {j = k} h in
+    let c = times d (div_is n d 0 n (omega (arith, f)) (omega arith)).0 in
+    omega (arith, e, z, o, f, c, pow_diff {a = k} {b = 64} (omega arith)))
+cut_wrapped false x b u v l m e z =
+    let d : ℕ = suc b in
+    let y : (x + 0) % 2 ^ 64 ≡ x = omega arith in
+    omega (arith, e, z, div_mod 0 d (omega arith), ap (λ n. n / d * d) y, div_mod x d (omega arith))

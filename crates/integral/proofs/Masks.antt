@@ -36,15 +36,18 @@ under_is v b (k, e) =
     ap (bit_and v) d ∙ and_mask v k ∙ ap (λ m. v % m) (sym e)
 
 -- a word of ones without the bits under a mask
-pub ones_without : (b : ℕ) → b < 2 ^ 64 → Mask b → (2 ^ 64 - 1) / suc b * suc b ≡ 2 ^ 64 - suc b
-ones_without b l (k, e) =
+pub ones_without : (b : ℕ) → Mask b → (2 ^ 64 - 1) / suc b * suc b ≡ 2 ^ 64 - suc b
+ones_without b (k, e) =
     order k 64
     (λ h.
     let d = diff {a = 2 ^ (64 - k)} {b = 1} (2 ^ k) (pow_pos (64 - k)) in
     ap (λ n. (2 ^ 64 - 1) / n * n) e
     ∙ times (2 ^ k) (shifted 64 k h)
     ∙ omega (arith, pow_diff {a = 64} {b = k} h))
-    (λ h. absurd (omega (arith, pow_mono {i = 65} {j = k} h)))
+    (λ h.
+    ap (λ n. (2 ^ 64 - 1) / n * n) e
+    ∙ times (2 ^ k) (shifted_out 64 k (omega arith))
+    ∙ omega (arith, pow_mono {i = 65} {j = k} h))
 
 -- under a word of ones all of v, under none nothing
 pub under_ones : (v : ℕ) → v < 2 ^ 64 → bit_and v (2 ^ 64 - 1) ≡ v

@@ -1,5 +1,5 @@
 -- The code computes trunc, over the format; and where the point stands within the fraction. Assumes nothing.
-use Rattle.std.proofs.Common.{◌≡◌, ℕ, suc, ◌+◌, ◌-◌, ◌*◌, ◌/◌, ◌^◌, ◌<◌, ◌≤◌, sym, refl, ap, ◌∙◌, arith, pow_pos}
+use Rattle.std.proofs.Common.{◌≡◌, ℕ, suc, ◌+◌, ◌-◌, ◌*◌, ◌/◌, ◌^◌, ◌<◌, ◌≤◌, sym, refl, ap, ◌∙◌, subst, arith, pow_pos}
 use Rattle.algebra.proofs.Quotients.{div_mod}
 use Rattle.ieee.specs.Format.{Format, Fair, top, bias, inf}
 use Rattle.ieee.specs.Pattern.{Pattern, field}
@@ -9,7 +9,7 @@ use Rattle.ieee.proofs.Fields.{magnitude_fields, fraction_small}
 use Rattle.fmt_fields.specs.Width.{format, Fits}
 use Rattle.integral.specs.Point.{exponent_of, behind_of, one_nan, Tail}
 use Rattle.integral.proofs.Masks.{behind_part}
-use Rattle.integral.proofs.Choices.{by_cases, not_past, exponent_at}
+use Rattle.integral.proofs.Choices.{by_cases, not_past, exponent_at, exponent_part}
 use Rattle.integral.proofs.WholeParts.{stays, far, shorter_all, shorter_part}
 
 -- ---- trunc
@@ -49,6 +49,14 @@ part_of {p} {e} w x l h =
     let i = exponent_at w x l in
     let n = exponent_of (format p e) x in
     record { k = p - n; mask = behind_part p n (omega (arith, w.word, w.fair.expo_two)) (omega arith); some = omega arith; stands = omega arith }
+
+-- the mask b of an exponent n below the bits of the fraction
+pub part_within : {p e : ℕ} → Fits p e → (x n b : ℕ) → n ≡ exponent_of (format p e) x → n < p → b ≡ behind_of p n → (bias (format p e) ≤ field (format p e) x) × Part (format p e) x b
+part_within {p} {e} w x n b i h m =
+    let f = format p e in
+    let at = exponent_part w x (omega arith) in
+    let l : bias f ≤ field f x = omega arith in
+    (l, subst (Part f x) (sym (m ∙ ap (behind_of p) i)) (part_of w x l (omega arith)))
 
 pub one_below_infinity : (f : Format) → Fair f → bias f * 2 ^ f.frac < inf f
 one_below_infinity f g = omega (arith, far f g (bias f) (omega (arith, g.frac_pos)), pow_pos f.frac)

@@ -1,11 +1,11 @@
 -- The flags of a pattern x that was sent to r, by its magnitude; and those of trunc, floor and ceil. Assumes nothing.
-use Rattle.std.proofs.Common.{◌≡◌, ℕ, ◌<◌, ◌≤◌, Bool, true, false, not, eqb, sym, ap, ◌∙◌, arith}
+use Rattle.std.proofs.Common.{◌≡◌, ℕ, ◌<◌, ◌≤◌, Bool, true, false, not, eqb, sym, ap, ◌∙◌}
 use native.Mathlib.Omega.{both_ways}
 use Rattle.algebra.proofs.Products.{order}
 use Rattle.ieee.specs.Format.{Format, inf}
 use Rattle.ieee.specs.Pattern.{magnitude, kind}
 use Rattle.ieee.specs.Flags.{nan_flags, only_inexact, signals}
-use Rattle.ieee.specs.Whole.{whole_in, whole_flags_by, whole_flags_in, trunc_of, trunc_flags, floor_of, floor_flags, ceil_of, ceil_flags}
+use Rattle.ieee.specs.Whole.{whole_flags_by, whole_flags_in, trunc_of, trunc_flags, floor_of, floor_flags, ceil_of, ceil_flags}
 use Rattle.ieee.proofs.Patterns.{kind_finite, kind_infinite, kind_nan}
 use Rattle.ieee.proofs.Signals.{infinite_silent}
 use Rattle.integral.specs.Directed.{directed, directed_flags}

@@ -1,6 +1,6 @@
 -- The steps of floor and ceil, in a word: a number sent down, or up. Assumes nothing.
-use Rattle.std.specs.Prelude.{◌≡◌, ℕ, suc, ◌+◌, ◌-◌, ◌*◌, ◌/◌, ◌%◌, ◌^◌, ◌<◌, Bool, true, false, cond, not, ◌==◌}
-use Rattle.ieee.specs.Format.{Format, bias, inf}
+use Rattle.std.specs.Prelude.{ℕ, suc, ◌+◌, ◌-◌, ◌*◌, ◌/◌, ◌%◌, ◌^◌, Bool, true, false, cond, not, ◌==◌}
+use Rattle.ieee.specs.Format.{Format, bias}
 use Rattle.ieee.specs.Pattern.{minus, magnitude, signed}
 use Rattle.ieee.specs.Flags.{Flags}
 use Rattle.ieee.specs.Whole.{floor_of, floor_flags, ceil_of, ceil_flags}
@@ -34,7 +34,3 @@ below_one f up x = cond (magnitude f x == 0) x (one_or_zero f up x)
 -- x without the bits under the mask b; where it goes away from zero, less one before the cut, and one above the mask more after it
 unfoldable pub cut_by : Bool → ℕ → ℕ → ℕ
 cut_by a x b = cond a (((x + (2 ^ 64 - 1)) % 2 ^ 64 / suc b * suc b + suc b) % 2 ^ 64) (x / suc b * suc b)
-
--- x is a number, where that is known
-abbrev pub Known : Format → ℕ → Bool → Type 0
-Known f x known = known ≡ true → magnitude f x < inf f

@@ -1,33 +1,33 @@
-// floor and ceil alike: a number sent down, or up, to a whole number. The value alone needs no jump.
+// floor and ceil alike: a number sent down, or up, to a whole number, as `directed` (specs/Directed.antt) has it by a Bool. The value alone needs no jump.
 ghost use Rattle.std.specs.Prelude.{◌≡◌};
 ghost use Rattle.ieee.specs.Pattern.{Pattern, minus};
-ghost use Rattle.fmt_fields.specs.Width.{format, Fits};
+ghost use Rattle.fmt_fields.specs.Layout.{format_of};
 ghost use Rattle.fmt_fields.specs.Raised.{flags_of};
-ghost use Rattle.integral.specs.Point.{one_nan, Mask};
-ghost use Rattle.integral.specs.Directed.{directed, directed_flags, goes_away, ones_if, one_or_zero, below_one, cut_by, Known};
+ghost use Rattle.integral.specs.Point.{one_nan};
+ghost use Rattle.integral.specs.Directed.{directed, directed_flags, goes_away, ones_if, one_or_zero, below_one, cut_by};
 
+use crate::mask::Mask;
 use crate::point::{
-    bias, canonicalise, choose_by_point, clear_under, exponent_of, fraction_mask, is_number,
-    shift_sign_out,
+    bias, canonicalise, choose_by_point, exponent_of, fraction_mask, is_number, shift_sign_out,
 };
-use fmt_fields::env::{Raised64, inexact_if, invalid_if};
-use fmt_fields::pattern::is_signalling;
+use fmt_fields::env::{Flagged, Raised};
+use fmt_fields::layout::Format;
 use word_bits::pow;
 
 // All ones where x is negative, otherwise 0.
-fn sign_word(frac: u32, expo: u32, x: u64) -> u64
-    requires { Fits frac expo × Pattern (format frac expo) x }
-    ensures { result ≡ ones_if (minus (format frac expo) x) }
+fn sign_word(fmt: Format, x: u64) -> u64
+    requires { Pattern (format_of fmt) x }
+    ensures { result ≡ ones_if (minus (format_of fmt) x) }
 {
-    std::num::wrapping_sub_u64(0, x / pow(frac + expo))
+    0u64.wrapping_sub(x / pow(fmt.frac + fmt.expo))
 }
 
 // All ones where x goes away from zero, otherwise 0.
-fn away_word(frac: u32, expo: u32, x: u64, up: bool) -> u64
-    requires { Fits frac expo × Pattern (format frac expo) x }
-    ensures { result ≡ ones_if (goes_away (format frac expo) up x) }
+fn away_word(fmt: Format, x: u64, up: bool) -> u64
+    requires { Pattern (format_of fmt) x }
+    ensures { result ≡ ones_if (goes_away (format_of fmt) up x) }
 {
-    let sign = sign_word(frac, expo, x);
+    let sign = sign_word(fmt, x);
     if up {
         return 0xffffffffffffffff - sign;
     }
@@ -35,13 +35,13 @@ fn away_word(frac: u32, expo: u32, x: u64, up: bool) -> u64
 }
 
 // A one where x goes away from zero, else a zero, with the sign of x: down -1 or +0, and up -0 or 1. The sign's word keeps what a negative x has more.
-fn one_or_zero(frac: u32, expo: u32, x: u64, up: bool) -> u64
-    requires { Fits frac expo × Pattern (format frac expo) x }
-    ensures { result ≡ one_or_zero (format frac expo) up x }
+fn one_or_zero(fmt: Format, x: u64, up: bool) -> u64
+    requires { Pattern (format_of fmt) x }
+    ensures { result ≡ one_or_zero (format_of fmt) up x }
 {
-    let one = bias(expo) * pow(frac);
-    let sign = sign_word(frac, expo, x);
-    let top = pow(frac + expo);
+    let one = bias(fmt.expo) * pow(fmt.frac);
+    let sign = sign_word(fmt, x);
+    let top = pow(fmt.frac + fmt.expo);
     if up {
         return one + ((top - one) & sign);
     }
@@ -49,12 +49,12 @@ fn one_or_zero(frac: u32, expo: u32, x: u64, up: bool) -> u64
 }
 
 // Between -1 and 1 a zero stays.
-fn send_below_one(frac: u32, expo: u32, x: u64, up: bool) -> u64
-    requires { Fits frac expo × Pattern (format frac expo) x }
-    ensures { result ≡ below_one (format frac expo) up x }
+fn send_below_one(fmt: Format, x: u64, up: bool) -> u64
+    requires { Pattern (format_of fmt) x }
+    ensures { result ≡ below_one (format_of fmt) up x }
 {
-    let sent = one_or_zero(frac, expo, x, up);
-    if shift_sign_out(frac, expo, x) == 0 {
+    let sent = one_or_zero(fmt, x, up);
+    if shift_sign_out(fmt, x) == 0 {
         return x;
     }
     sent
@@ -62,60 +62,52 @@ fn send_below_one(frac: u32, expo: u32, x: u64, up: bool) -> u64
 
 // x without the bits under a mask. Where it goes away from zero, one is taken off before the cut, and one above the mask put back after it. Both go by
 // the same word, all ones or 0, so that no jump is needed.
-fn cut_by(frac: u32, expo: u32, x: u64, up: bool, mask: u64) -> u64
-    requires { Fits frac expo × Pattern (format frac expo) x × Mask mask }
-    ensures { result ≡ cut_by (goes_away (format frac expo) up x) x mask }
+fn cut_by(fmt: Format, x: u64, up: bool, mask: Mask) -> u64
+    requires { Pattern (format_of fmt) x }
+    ensures { result ≡ cut_by (goes_away (format_of fmt) up x) x mask.bits }
 {
-    let away = away_word(frac, expo, x, up);
-    let less = std::num::wrapping_add_u64(x, away);
-    std::num::wrapping_sub_u64(clear_under(less, mask), clear_under(away, mask))
+    let away = away_word(fmt, x, up);
+    let less = x.wrapping_add(away);
+    mask.clear(less).wrapping_sub(mask.clear(away))
 }
 
-// x, or the canonical NaN for every NaN; where x is known for a number nothing is asked.
-fn canonicalise_unless(frac: u32, expo: u32, x: u64, known: bool) -> u64
-    requires { Fits frac expo × Known (format frac expo) x known }
-    ensures { result ≡ one_nan (format frac expo) x }
+// What has no bits behind the point is sent to whole: x, or the canonical NaN for every NaN.
+fn direct(fmt: Format, x: u64, up: bool, whole: u64) -> u64
+    requires held { Pattern (format_of fmt) x }
+    requires stays { whole ≡ one_nan (format_of fmt) x }
+    ensures value { result ≡ directed (format_of fmt) up x }
+    ensures held { Pattern (format_of fmt) result }
 {
-    if known {
-        return x;
-    }
-    canonicalise(frac, expo, x)
+    let n = exponent_of(fmt, x);
+    let part = cut_by(fmt, x, up, fraction_mask(fmt.frac, n));
+    let below = send_below_one(fmt, x, up);
+    choose_by_point(fmt, x, n, below, part, whole)
 }
 
-fn direct(frac: u32, expo: u32, x: u64, up: bool, known: bool) -> u64
-    requires { Fits frac expo × Pattern (format frac expo) x × Known (format frac expo) x known }
-    ensures { (result ≡ directed (format frac expo) up x) × Pattern (format frac expo) result }
+pub fn directed_pattern(fmt: Format, x: u64, up: bool) -> u64
+    requires { Pattern (format_of fmt) x }
+    ensures value { result ≡ directed (format_of fmt) up x }
+    ensures held { Pattern (format_of fmt) result }
 {
-    let n = exponent_of(frac, expo, x);
-    let mask = fraction_mask(frac, n);
-    let part = cut_by(frac, expo, x, up, mask);
-    let below = send_below_one(frac, expo, x, up);
-    let one = canonicalise_unless(frac, expo, x, known);
-    choose_by_point(frac, expo, x, n, below, part, one)
-}
-
-pub fn directed_pattern(frac: u32, expo: u32, x: u64, up: bool) -> u64
-    requires { Fits frac expo × Pattern (format frac expo) x }
-    ensures { (result ≡ directed (format frac expo) up x) × Pattern (format frac expo) result }
-{
-    direct(frac, expo, x, up, false)
+    direct(fmt, x, up, canonicalise(fmt, x))
 }
 
 // With flags. Whether x is a number is asked first, by a jump that is guessed rightly, so that neither value nor flags of a number look for a NaN.
-pub fn directed_flags(frac: u32, expo: u32, x: u64, up: bool) -> Raised64
-    requires { Fits frac expo × Pattern (format frac expo) x }
-    ensures { (result.value ≡ directed (format frac expo) up x) × Pattern (format frac expo) result.value
-        × (flags_of result.flags ≡ directed_flags (format frac expo) up x) }
+pub fn directed_flags(fmt: Format, x: u64, up: bool) -> Flagged<u64, Raised>
+    requires { Pattern (format_of fmt) x }
+    ensures value { result.value ≡ directed (format_of fmt) up x }
+    ensures held { Pattern (format_of fmt) result.value }
+    ensures flags { flags_of result.flags ≡ directed_flags (format_of fmt) up x }
 {
-    if is_number(frac, expo, x) {
-        let r = direct(frac, expo, x, up, true);
-        return Raised64 {
+    if is_number(fmt, x) {
+        let r = direct(fmt, x, up, x);
+        return Flagged {
             value: r,
-            flags: inexact_if(r != x),
+            flags: Raised::inexact_if(r != x),
         };
     }
-    Raised64 {
-        value: canonicalise(frac, expo, x),
-        flags: invalid_if(is_signalling(frac, expo, x)),
+    Flagged {
+        value: canonicalise(fmt, x),
+        flags: Raised::invalid_if(fmt.is_signalling(x)),
     }
 }

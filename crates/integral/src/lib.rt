@@ -5,6 +5,7 @@ pub mod ceil;
 pub mod directed;
 pub mod flags;
 pub mod floor;
+pub mod mask;
 pub mod modf;
 pub mod point;
 pub mod trunc;

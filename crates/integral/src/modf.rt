@@ -1,91 +1,90 @@
 // modf: a number cut at its point into a whole part and a fraction, both with its sign; always exact.
 ghost use Rattle.std.specs.Prelude.{◌≡◌, ◌<◌, ◌≤◌};
-ghost use Rattle.ieee.specs.Format.{b64, b32};
 ghost use Rattle.ieee.specs.Pattern.{Pattern};
 ghost use Rattle.ieee.specs.Modf.{modf_of, modf_whole};
-ghost use Rattle.fmt_fields.specs.Width.{format, Fits};
+ghost use Rattle.fmt_fields.specs.Layout.{format_of};
 ghost use Rattle.integral.specs.Point.{exponent_of};
 
-use crate::point::{bias, bits_under, exponent_of, fraction_mask};
+use crate::point::{bias, exponent_of, fraction_mask};
 use fmt_decode::pack::pack_units;
-use fmt_fields::pattern::{infinity, magnitude_of, nan};
-use fmt_fields::{exponent_field, is_negative, with_sign};
+use fmt_fields::layout::Format;
+use fmt_fields::width::Width;
 
 // What is behind the point, and what is before it.
 #[derive(Clone, Copy)]
-pub struct Parted64 {
-    pub fraction: u64,
-    pub whole: u64,
-}
-
-#[derive(Clone, Copy)]
-pub struct Parted32 {
-    pub fraction: u32,
-    pub whole: u32,
+pub struct Parted<W> {
+    pub fraction: W,
+    pub whole: W,
 }
 
 // A point within the fraction, with n bits of it before the point: those behind it are a significand with the exponent of x.
-fn modf_within(frac: u32, expo: u32, x: u64, n: u64) -> Parted64
-    requires { Fits frac expo × Pattern (format frac expo) x × (n ≡ exponent_of (format frac expo) x) × (n < frac) }
-    ensures { (result.fraction ≡ modf_of (format frac expo) x) × (result.whole ≡ modf_whole (format frac expo) x) }
+#[inline(always)]
+fn modf_within(fmt: Format, x: u64, n: u64) -> Parted<u64>
+    requires held { Pattern (format_of fmt) x }
+    requires exponent { n ≡ exponent_of (format_of fmt) x }
+    requires within { n < fmt.frac }
+    ensures fraction { result.fraction ≡ modf_of (format_of fmt) x }
+    ensures whole { result.whole ≡ modf_whole (format_of fmt) x }
 {
-    let tail = bits_under(x, fraction_mask(frac, n));
-    let up = exponent_field(frac, expo, x) - 1;
-    let m = pack_units(frac, expo, tail, up as u32);
-    Parted64 {
-        fraction: with_sign(frac, expo, is_negative(frac, expo, x), m),
+    let tail = fraction_mask(fmt.frac, n).under(x);
+    let up = fmt.exponent_field(x) - 1;
+    let m = pack_units(fmt, tail, up as u32);
+    Parted {
+        fraction: fmt.with_sign(fmt.is_negative(x), m),
         whole: x - tail,
     }
 }
 
 // No point within the fraction: x is all fraction, or all whole part, as an infinity is too. Both parts of a NaN are NaNs.
-fn modf_undivided(frac: u32, expo: u32, x: u64) -> Parted64
-    requires { Fits frac expo × Pattern (format frac expo) x × (frac ≤ exponent_of (format frac expo) x) }
-    ensures { (result.fraction ≡ modf_of (format frac expo) x) × (result.whole ≡ modf_whole (format frac expo) x) }
+#[inline(always)]
+fn modf_undivided(fmt: Format, x: u64) -> Parted<u64>
+    requires held { Pattern (format_of fmt) x }
+    requires undivided { fmt.frac ≤ exponent_of (format_of fmt) x }
+    ensures fraction { result.fraction ≡ modf_of (format_of fmt) x }
+    ensures whole { result.whole ≡ modf_whole (format_of fmt) x }
 {
-    let zero = with_sign(frac, expo, is_negative(frac, expo, x), 0);
-    if exponent_field(frac, expo, x) < bias(expo) {
-        return Parted64 {
+    let zero = fmt.with_sign(fmt.is_negative(x), 0);
+    if fmt.exponent_field(x) < bias(fmt.expo) {
+        return Parted {
             fraction: x,
             whole: zero,
         };
     }
-    if magnitude_of(frac, expo, x) > infinity(frac, expo) {
-        return Parted64 {
-            fraction: nan(frac, expo),
-            whole: nan(frac, expo),
+    if fmt.magnitude_of(x) > fmt.infinity() {
+        return Parted {
+            fraction: fmt.nan(),
+            whole: fmt.nan(),
         };
     }
-    Parted64 {
+    Parted {
         fraction: zero,
         whole: x,
     }
 }
 
-fn modf_pattern(frac: u32, expo: u32, x: u64) -> Parted64
-    requires { Fits frac expo × Pattern (format frac expo) x }
-    ensures { (result.fraction ≡ modf_of (format frac expo) x) × (result.whole ≡ modf_whole (format frac expo) x)
-        × Pattern (format frac expo) result.fraction × Pattern (format frac expo) result.whole }
+// Inlined with both ways, so that the compiler sees that from 1 on the exponent is past every shift of pack_units, and leaves out the test.
+#[inline(always)]
+fn modf_pattern(fmt: Format, x: u64) -> Parted<u64>
+    requires { Pattern (format_of fmt) x }
+    ensures fraction { result.fraction ≡ modf_of (format_of fmt) x }
+    ensures whole { result.whole ≡ modf_whole (format_of fmt) x }
+    ensures fraction_held { Pattern (format_of fmt) result.fraction }
+    ensures whole_held { Pattern (format_of fmt) result.whole }
 {
-    let n = exponent_of(frac, expo, x);
-    if n < frac as u64 {
-        return modf_within(frac, expo, x, n);
+    let n = exponent_of(fmt, x);
+    if n < fmt.frac as u64 {
+        return modf_within(fmt, x, n);
     }
-    modf_undivided(frac, expo, x)
+    modf_undivided(fmt, x)
 }
 
-pub fn modf64(x: u64) -> Parted64
-    ensures { (result.fraction ≡ modf_of b64 x) × (result.whole ≡ modf_whole b64 x) }
+pub fn modf<W: Width>(x: W) -> Parted<W>
+    ensures fraction { W.pattern result.fraction ≡ modf_of W.layout (W.pattern x) }
+    ensures whole { W.pattern result.whole ≡ modf_whole W.layout (W.pattern x) }
 {
-    modf_pattern(52, 11, x)
-}
-
-pub fn modf32(x: u32) -> Parted32
-    ensures { (result.fraction ≡ modf_of b32 x) × (result.whole ≡ modf_whole b32 x) }
-{
-    let r = modf_pattern(23, 8, x as u64);
-    Parted32 {
-        fraction: r.fraction as u32,
-        whole: r.whole as u32,
+    let parts = modf_pattern(W::format(), x.widen());
+    Parted {
+        fraction: W::narrow(parts.fraction),
+        whole: W::narrow(parts.whole),
     }
 }

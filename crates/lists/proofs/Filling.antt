@@ -1,28 +1,17 @@
 -- The output of a loop that has done some places, over the operation at each. Assumes nothing.
-use Prim.Native.Nat.{ℕ, zero, suc, ◌+◌, ◌<◌}
-use mathlib.Core.Path.{◌≡◌, refl, ap}
-use mathlib.Core.List.{List, [], ◌∷◌, ◌++◌, map}
-use native.Mathlib.Numerals.{add-one}
-use native.Mathlib.Omega.{arith}
-use lib.ListN.{length, take, drop, set, get_or}
+use Rattle.std.proofs.Common.{ℕ, zero, suc, ◌<◌, ◌≤◌, ◌≡◌, refl, ap, ap₂, ◌∙◌, List, [], ◌∷◌, ◌++◌, map, length, take, drop, get_or, arith}
 
 module _ (g : ℕ → ℕ) where
   -- ys with its first k places filled from xs
   abbrev pub filled : List ℕ → List ℕ → ℕ → List ℕ
   filled xs ys k = map g (take k xs) ++ drop k ys
 
-  pub none_filled : (xs ys : List ℕ) → ys ≡ filled xs ys 0
-  none_filled xs ys = refl
-
-  fill_at : (xs ys : List ℕ) (k : ℕ) → k < length xs → k < length ys → set (filled xs ys k) k (g (get_or xs k 0)) ≡ filled xs ys (suc k)
-  fill_at [] ys k l h = absurd (omega arith)
-  fill_at (x ∷ xs) [] k l h = absurd (omega arith)
-  fill_at (x ∷ xs) (y ∷ ys) zero l h = refl
-  fill_at (x ∷ xs) (y ∷ ys) (suc k) l h = ap (λ (zs : List ℕ). g x ∷ zs) (fill_at xs ys k (omega arith) (omega arith))
-
-  -- the next place
-  pub one_filled : (xs ys zs : List ℕ) (k z : ℕ) → k < length xs → k < length ys → z ≡ g (get_or xs k 0) → zs ≡ filled xs ys k → set zs k z ≡ filled xs ys (k + 1)
-  one_filled xs ys zs k z l h e p = rw (e, p, add-one) (fill_at xs ys k l h)
+  -- so it is where each of them is
+  places_filled : (xs ys : List ℕ) (n : ℕ) → length xs ≡ length ys → n ≤ length xs → ((k : ℕ) → k < n → get_or ys k 0 ≡ g (get_or xs k 0)) → ys ≡ filled xs ys n
+  places_filled xs ys zero e l h = refl
+  places_filled [] ys (suc n) e l h = absurd (omega arith)
+  places_filled (x ∷ xs) [] (suc n) e l h = absurd (omega arith)
+  places_filled (x ∷ xs) (y ∷ ys) (suc n) e l h = ap₂ (λ z (zs : List ℕ). z ∷ zs) (h 0 (omega arith)) (places_filled xs ys n (omega arith) (omega arith) (λ k i. h (suc k) (omega arith)))
 
   -- all places
   pub all_filled : (xs ys : List ℕ) → length xs ≡ length ys → filled xs ys (length xs) ≡ map g xs
@@ -30,3 +19,11 @@ module _ (g : ℕ → ℕ) where
   all_filled [] (y ∷ ys) e = absurd (omega arith)
   all_filled (x ∷ xs) [] e = absurd (omega arith)
   all_filled (x ∷ xs) (y ∷ ys) e = ap (λ (zs : List ℕ). g x ∷ zs) (all_filled xs ys (omega arith))
+
+  pub each_filled : (xs ys : List ℕ) → length xs ≡ length ys → ((k : ℕ) → k < length xs → get_or ys k 0 ≡ g (get_or xs k 0)) → ys ≡ map g xs
+  each_filled xs ys e h = places_filled xs ys (length xs) e (omega arith) h ∙ all_filled xs ys e
+
+  -- and of an operation that leaves each number
+  pub all_left : ((x : ℕ) → x ≡ g x) → (xs : List ℕ) → xs ≡ map g xs
+  all_left h [] = refl
+  all_left h (x ∷ xs) = ap₂ (λ z (zs : List ℕ). z ∷ zs) (h x) (all_left h xs)

@@ -1,6 +1,5 @@
 -- The operations by their numbers, over the format. Assumes nothing.
-use Prim.Native.Nat.{ℕ, zero, suc}
-use mathlib.Core.Path.{◌≡◌, refl, sym, ap, ◌∙◌}
+use Rattle.std.proofs.Common.{ℕ, zero, suc, ◌<◌, ◌≡◌, refl, sym, ap, ◌∙◌, ◌⊎◌, inl, inr, arith}
 use Rattle.ieee.specs.Format.{Format}
 use Rattle.ieee.specs.Lists.{operation}
 use Rattle.ieee.specs.Sqrt.{sqrt_of}
@@ -28,3 +27,7 @@ others_leave f (suc zero) x a b c = absurd (a refl)
 others_leave f (suc (suc zero)) x a b c = absurd (b refl)
 others_leave f (suc (suc (suc zero))) x a b c = absurd (c refl)
 others_leave f (suc (suc (suc (suc k)))) x a b c = refl
+
+pub unknown_leave : (f : Format) (op x : ℕ) → (op < 1) ⊎ (3 < op) → x ≡ operation f op x
+unknown_leave f op x (inl h) = others_leave f op x (omega arith) (omega arith) (omega arith)
+unknown_leave f op x (inr h) = others_leave f op x (omega arith) (omega arith) (omega arith)

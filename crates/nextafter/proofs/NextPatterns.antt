@@ -1,16 +1,14 @@
 -- nextafter by signs and magnitudes, over the format. Assumes nothing.
-use Prim.Native.Nat.{ℕ, zero, suc, ◌+◌, ◌-◌, ◌<◌}
-use mathlib.Core.Path.{◌≡◌, refl, sym, ap, ◌∙◌}
-use mathlib.Core.Bool.{Bool, true, false, cond}
-use native.Mathlib.Omega.{arith, both_ways}
+use Rattle.std.proofs.Common.{◌≡◌, ℕ, zero, suc, ◌+◌, ◌-◌, ◌<◌, Bool, true, false, cond, refl, sym, ap, ◌∙◌, arith}
+use native.Mathlib.Omega.{both_ways}
 use Rattle.algebra.proofs.Products.{order}
 use Rattle.ieee.specs.Format.{Format, top}
-use Rattle.ieee.specs.Pattern.{Pattern, minus, magnitude, signed}
+use Rattle.ieee.specs.Pattern.{minus, magnitude, signed}
 use Rattle.ieee.specs.Nextafter.{next_up, next_down, nextafter_of}
 use Rattle.ieee.specs.NextafterRule.{Ordered}
 use Rattle.ieee.proofs.Decide.{Reads, holds, fails, leb_reads, beq_reads, and_reads}
-use Rattle.ieee.proofs.Patterns.{inf_below_top, pattern_signed, signed_is, same_pattern}
-use Rattle.ieee.proofs.Ranks.{rank_of, rank, magnitude_small}
+use Rattle.ieee.proofs.Patterns.{inf_below_top, signed_is, same_pattern}
+use Rattle.ieee.proofs.Ranks.{rank_of, rank}
 use Rattle.ieee.proofs.Nexts.{next_same, next_up_lem, next_down_lem}
 use Rattle.nextafter.specs.NextPattern.{outward, next_pattern}
 
@@ -79,9 +77,3 @@ module _ (f : Format) where
         go false e =
             follows_in (minus f x) (minus f y) (magnitude f x) (magnitude f y) (nextafter_of f x y) p (omega (arith, o.not_nan, inf_below_top f)) (strict e) follows
             ∙ ap (λ m. m - 1) (signed_is f x o.pattern)
-
-  -- outward there is a pattern left, that of y or one before it
-  pub outward_fits : (x y : ℕ) → Pattern f x → outward f x y ≡ true → Pattern f (x + 1)
-  outward_fits x y p e =
-      let (s, l) = holds (outward_reads x y) e in
-      omega (arith, signed_is f x p, pattern_signed f (minus f x) (suc (magnitude f x)) (omega (arith, magnitude_small f y)))

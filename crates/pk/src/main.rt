@@ -4,16 +4,17 @@
 mod call;
 mod reply;
 
-use cmd_streams::Streams;
-use text_lines::Kept;
+use cmd_streams::{State, Streams};
+use std::fmt::Write;
+use text_lines::Line;
 
 // The most that one line can add to the output.
 const ROOM: usize = 1024;
 
-#[derive(Clone, Copy)]
-struct State {
+#[derive(Drop)]
+struct Program {
     // The kept part of the current line.
-    kept: Kept,
+    line: Line,
     // Whether it is a comment, which is copied.
     is_comment: bool,
     // The lines that have ended, and how many of them were bad.
@@ -22,156 +23,95 @@ struct State {
     streams: Streams,
 }
 
-fn new_state(streams: Streams) -> State {
-    State {
-        kept: text_lines::nothing_kept(),
-        is_comment: false,
-        ended: 0,
-        bad: 0,
-        streams,
-    }
-}
-
-fn pass_on(mut s: State, out: &mut [u8; 65536], bytes: &[u8]) -> State {
-    let streams = s.streams;
-    let mut t = cmd_streams::reserve(streams, out, bytes.len());
-    let used = t.used;
-    t.used = text_lines::write_bytes(out, used, bytes);
-    s.streams = t;
-    s
-}
-
-// Answers the current line, unless it is empty or a comment, and ends it.
-fn end_line(mut s: State, line: &[u8; 128], out: &mut [u8; 65536]) -> State {
-    let streams = s.streams;
-    let mut t = cmd_streams::reserve(streams, out, ROOM);
-    let kept = s.kept;
-    let held = kept.held;
-    let used = t.used;
-    let number = std::num::wrapping_add_u64(s.ended, 1);
-    if held > 0 {
-        let reply = reply::write_reply(
-            out,
-            used,
-            text_lines::part(line, 0, held),
-            kept.is_long,
-            number,
-        );
-        t.used = reply.end;
-        if reply.is_bad {
-            s.bad = std::num::wrapping_add_u64(s.bad, 1);
+impl Program {
+    fn new(streams: Streams) -> Self {
+        Program {
+            line: Line::new(),
+            is_comment: false,
+            ended: 0,
+            bad: 0,
+            streams,
         }
     }
-    let end = t.used;
-    t.used = text_lines::write_bytes(out, end, b"\n");
-    s.streams = t;
-    s.ended = number;
-    let none = text_lines::nothing_kept();
-    s.kept = none;
-    s.is_comment = false;
-    s
-}
 
-fn starts_comment(s: State, bytes: &[u8]) -> bool {
-    if s.kept.held > 0 {
-        return false;
+    fn pass_on(&mut self, bytes: &[u8]) {
+        self.streams.reserve(bytes.len());
+        self.streams.output.write_bytes(bytes);
     }
-    if bytes.len() == 0 {
-        return false;
-    }
-    bytes[0] == b'#'
-}
 
-// Takes a part of the current line.
-fn take_part(mut s: State, line: &mut [u8; 128], out: &mut [u8; 65536], bytes: &[u8]) -> State {
-    if starts_comment(s, bytes) {
-        s.is_comment = true;
-    }
-    if s.is_comment {
-        return pass_on(s, out, bytes);
-    }
-    let kept = s.kept;
-    let more = text_lines::keep(line, kept, bytes);
-    s.kept = more;
-    s
-}
-
-fn take_lines(s: State, line: &mut [u8; 128], out: &mut [u8; 65536], bytes: &[u8]) -> State {
-    let mut t = s;
-    let mut i = 0;
-    while i < bytes.len() {
-        let rest = &bytes[i..];
-        let n = text_lines::find(rest, 0, b'\n');
-        if n == rest.len() {
-            return take_part(t, line, out, rest);
+    // Answers the current line, unless it is empty or a comment, and ends it.
+    fn end_line(&mut self) {
+        self.streams.reserve(ROOM);
+        self.ended = self.ended.wrapping_add(1);
+        if !self.line.is_empty() {
+            self.reply();
         }
-        i += n + 1;
-        t = take_part(t, line, out, text_lines::part(rest, 0, n));
-        t = end_line(t, line, out);
+        self.streams.output.write_bytes(b"\n");
+        self.line.clear();
+        self.is_comment = false;
     }
-    t
-}
 
-// Reads once, and answers the lines that are complete.
-fn answer_read(
-    mut s: State,
-    line: &mut [u8; 128],
-    out: &mut [u8; 65536],
-    input: &mut [u8; 65536],
-) -> State {
-    let streams = s.streams;
-    let taken = cmd_streams::read_once(streams, input);
-    let next = taken.streams;
-    s.streams = next;
-    let mut t = take_lines(s, line, out, text_lines::part(input, 0, taken.count));
-    let full = t.streams;
-    let written = cmd_streams::flush(full, out);
-    t.streams = written;
-    t
-}
-
-// A proved loop must end, and the input need not. So the loop counts its turns, up to a number that no run reaches.
-fn run(
-    first: State,
-    line: &mut [u8; 128],
-    out: &mut [u8; 65536],
-    input: &mut [u8; 65536],
-) -> State {
-    let mut s = first;
-    for _ in 0..u64::MAX {
-        if !s.streams.is_open {
-            return s;
+    // Answers the current line.
+    fn reply(&mut self) {
+        let out = &mut self.streams.output;
+        if let Err(complaint) = reply::write_reply(out, self.line.kept(), self.line.is_long) {
+            let number = self.ended;
+            // It has room, and a writer into a buffer has no other fault.
+            let _ = write!(out, "error: line {number}: {complaint}");
+            self.bad = self.bad.wrapping_add(1);
         }
-        s = answer_read(s, line, out, input);
     }
-    with_failure(s)
-}
 
-fn with_failure(mut s: State) -> State {
-    let streams = s.streams;
-    let next = cmd_streams::with_failure(streams);
-    s.streams = next;
-    s
-}
+    // Takes a part of the current line.
+    fn take_part(&mut self, bytes: &[u8]) {
+        if self.line.is_empty() && bytes.first() == Some(&b'#') {
+            self.is_comment = true;
+        }
+        if self.is_comment {
+            self.pass_on(bytes);
+        } else {
+            self.line.keep(bytes);
+        }
+    }
 
-// Ends a last line that has no line feed.
-fn finish(s: State, line: &[u8; 128], out: &mut [u8; 65536]) -> State {
-    let kept = s.kept;
-    if s.is_comment {
-        return end_line(s, line, out);
+    fn take_lines(&mut self, bytes: &[u8]) {
+        for piece in bytes.split_inclusive(|b| *b == b'\n') {
+            match piece {
+                [line @ .., b'\n'] => {
+                    self.take_part(line);
+                    self.end_line();
+                }
+                _ => self.take_part(piece),
+            }
+        }
     }
-    if kept.held > 0 {
-        return end_line(s, line, out);
+
+    // Reads and answers, until the input ends, which it need not. A loop with no end would need `Wait`, which no handle of this repository has, so this one counts its
+    // turns, up to a number that no run reaches.
+    fn run(&mut self, input: &mut [u8; 65536]) {
+        for _ in 0..u64::MAX {
+            if self.streams.state != State::Open {
+                return;
+            }
+            let count = self.streams.read(input);
+            self.take_lines(text_lines::part(input, 0, count));
+            self.streams.flush();
+        }
+        self.streams.fail();
     }
-    s
+
+    // Ends a last line that has no line feed.
+    fn finish(&mut self) {
+        if self.is_comment || !self.line.is_empty() {
+            self.end_line();
+        }
+    }
 }
 
 fn main(rt: HostRuntime) {
-    let mut line = [0u8; 128];
-    let mut out = [0u8; 65536];
     let mut input = [0u8; 65536];
-    let streams = cmd_streams::open_streams(rt.stdin(), rt.stdout(), rt.stderr());
-    let s = run(new_state(streams), &mut line, &mut out, &mut input);
-    let t = finish(s, &line, &mut out);
-    cmd_streams::close(&rt, t.streams, &out, t.bad);
+    let mut program = Program::new(Streams::new(rt.stdin(), rt.stdout(), rt.stderr()));
+    program.run(&mut input);
+    program.finish();
+    program.streams.close(&rt, program.bad);
 }

@@ -1,47 +1,26 @@
 // The answered line, or the complaint about a request.
 use crate::call::answer_of;
-use cmd_operations::complaint::{Complaint, FINE, complaint_of, with_complaint, with_start};
-use cmd_operations::line::{empty, with_answers, write_line};
-use cmd_operations::request::{Request, read_request};
-use cmd_operations::text::Text;
-use text_lines::{find_arrow, part, write_bytes};
+use cmd_operations::answers::write_answers;
+use cmd_operations::complaint::Complaint;
+use cmd_operations::request::read_request;
+use cmd_streams::output::Output;
+use text_lines::{find_arrow, part};
 
-// What was written: the offset after it, and whether the line is bad.
-#[derive(Clone, Copy)]
-pub struct Reply {
-    pub end: usize,
-    pub is_bad: bool,
-}
-
-fn complain(out: &mut [u8], at: usize, number: u64, c: Complaint) -> Reply {
-    let line = with_complaint(with_start(empty(), number), c);
-    Reply {
-        end: write_line(out, at, line),
-        is_bad: true,
-    }
-}
-
-fn answer(out: &mut [u8], at: usize, asked: &[u8], r: Request) -> Reply {
-    let end = write_bytes(out, at, asked);
-    let answers = answer_of(r.row.number, r.operands);
-    Reply {
-        end: write_line(out, end, with_answers(empty(), r.row, answers)),
-        is_bad: false,
-    }
-}
-
-// Answers the line number `number`, of which s is all or, where `is_long`, the first part. Writes from the offset at on.
-pub fn write_reply(out: &mut [u8], at: usize, s: &[u8], is_long: bool, number: u64) -> Reply {
+// Answers the request in the line of which s is all or, where `is_long`, the first part. Nothing is written where it is no request.
+pub fn write_reply<const N: usize>(
+    out: &mut Output<N>,
+    s: &[u8],
+    is_long: bool,
+) -> Result<(), Complaint> {
     let arrow = find_arrow(s);
-    if is_long {
-        if arrow == s.len() {
-            return complain(out, at, number, complaint_of(Text::TooLong as u8));
-        }
+    if is_long && arrow == s.len() {
+        return Err(Complaint::TooLong);
     }
     let asked = part(s, 0, arrow);
-    let r = read_request(asked);
-    if r.complaint.what != FINE {
-        return complain(out, at, number, r.complaint);
-    }
-    answer(out, at, asked, r)
+    let request = read_request(asked);
+    let operands = request.operands?;
+    let row = request.row.ok_or(Complaint::Unknown)?;
+    out.write_bytes(asked);
+    write_answers(out, row, answer_of(row.number, operands));
+    Ok(())
 }

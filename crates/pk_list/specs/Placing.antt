@@ -1,11 +1,19 @@
 -- A line as a place of a list. Assumes nothing.
-use Rattle.std.specs.Prelude.{◌≡◌, ℕ, ◌<◌, List}
+use Rattle.std.specs.Prelude.{◌≡◌, ℕ, List, Option, Some, None, Result, Ok, Err, IsErr}
 use Rattle.text_numbers.specs.Fields.{word_of}
 use Rattle.text_numbers.specs.declared.read.Fault.{Fault}
-use Rattle.text_numbers.specs.declared.read.Field.TheVariants.{Value, Not}
-use Rattle.pk_list.specs.declared.place.Place.{Place}
+use Rattle.pk_list.specs.declared.place.Flaw.{Flaw}
 
--- a word of sixteen digits is its pattern, without a mark; any other line has a mark, and zero for its pattern
-pub record ReadAs (s : List ℕ) (r : Place) : Type 0 where
-  pub good : (v : ℕ) → word_of 16 s ≡ Value v → (r.pattern ≡ v) × (r.mark ≡ 0)
-  pub bad : (e : Fault) → word_of 16 s ≡ Not e → (r.pattern ≡ 0) × (0 < r.mark)
+-- the pattern of a place, which is zero where the line is not a pattern, and its flaw
+abbrev pub pattern_of : Result ℕ Flaw → ℕ
+pattern_of (Ok v) = v
+pattern_of (Err e) = 0
+
+abbrev pub flaw_of : Result ℕ Flaw → Option Flaw
+flaw_of (Ok v) = None
+flaw_of (Err e) = Some e
+
+-- a word of sixteen digits is its pattern, without a flaw; any other line has a flaw
+pub record ReadAs (s : List ℕ) (r : Result ℕ Flaw) : Type 0 where
+  pub good : (v : ℕ) → word_of 16 s ≡ Ok v → r ≡ Ok v
+  pub bad : (e : Fault) → word_of 16 s ≡ Err e → IsErr r

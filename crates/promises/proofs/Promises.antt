@@ -92,7 +92,8 @@ use Rattle.ieee.proofs.FlagCases.{flag_cases}
 use Rattle.ieee.proofs.PartCases.{part_cases}
 use Rattle.ieee.proofs.Lazy.{lazy64, lazy32}
 use Rattle.ieee_numeral_laws.specs.Numeral.{Numeral, Says}
-use Rattle.ieee_numeral_laws.specs.Reading.{just, numeral_of}
+use Rattle.std.specs.Prelude.{Some}
+use Rattle.ieee_numeral_laws.specs.Reading.{numeral_of}
 use Rattle.ieee_numeral_laws.specs.Read.{exact_numeral, read_of, read_rounded}
 use Rattle.ieee_numeral_laws.specs.ReadRule.{InGrammar, Worth, ReadAs}
 use Rattle.ieee_numeral_laws.specs.Write.{text_of, Written, write_of}
@@ -222,7 +223,7 @@ pub list_call_is_settled : (f : Format) (op : ℕ) (xs ys : List ℕ) → Listed
     × ((l : Listed) → ListedAs f list_limit op xs ys l → (number_of l.answer ≡ number_of (list_of f op xs ys).answer) × (value_of l.answer ≡ value_of (list_of f op xs ys).answer) × (l.output ≡ (list_of f op xs ys).output))
 list_call_is_settled f op xs ys = (list_of_is f op xs ys, λ l a. list_only f list_limit op xs ys l (list_of f op xs ys) a (list_of_is f op xs ys))
 
--- code: reduce64, reduce32, refusal64, refusal32, pk_reduce64, pk_reduce32
+-- code: reduce, refusal, pk_reduce64, pk_reduce32
 -- the number, and the value: what is left of x 2 ^ e by y, or 0 where it is refused; and only so
 pub reduction_is_settled : (w x e y : ℕ) → ReducedAs w x e y (reduce_of w x e y)
     × ((a : Answer) → ReducedAs w x e y a → (number_of a ≡ number_of (reduce_of w x e y)) × (value_of a ≡ value_of (reduce_of w x e y)))
@@ -327,62 +328,62 @@ scalbn_rounds_once f g x u n h =
     (o, λ q a. once_unique f g to_even (minus f x) (exact_scalbn f x n) q (scalbn_of f x n) a o)
 
 -- ======== Nothing is left open: for every pattern, whatever meets the rows, and for numbers the rule, is the answer.
--- code: sqrt64, sqrt32, pk_sqrt64, pk_sqrt32
+-- code: sqrt, pk_sqrt64, pk_sqrt32
 pub sqrt_is_settled : (f : Format) → Fair f → (o : ℕ → ℕ) → SqrtRows f o
     → ((x u : ℕ) → kind f x ≡ finite u → (minus f x ≡ true → u ≡ 0) → Once f to_even (minus f x) (exact_sqrt f x) (o x)) → (x : ℕ) → o x ≡ sqrt_of f x
 unfolding sqrt_of
 sqrt_is_settled f g o rows rule x = sqrt_settled f g ties_to_even o rows rule x
 
--- code: fma64, fma32, pk_fma64, pk_fma32
+-- code: fma, pk_fma64, pk_fma32
 pub fma_is_settled : (f : Format) → Fair f → (x y z r : ℕ) → FmaRows f ties_to_even x y z r
     → ((u v w : ℕ) → kind f x ≡ finite u → kind f y ≡ finite v → kind f z ≡ finite w → Once f to_even (zero_sign f ties_to_even x y z) (exact_fma f x y z) r)
     → Pattern f z → r ≡ fma_of f x y z
 unfolding fma_of
 fma_is_settled f g x y z r rows rule p = fma_settled f g ties_to_even x y z r rows rule p
 
--- code: scalbn64, scalbn32, pk_scalbn64, pk_scalbn32
+-- code: scalbn, pk_scalbn64, pk_scalbn32
 pub scalbn_is_settled : (f : Format) → Fair f → (x : ℕ) (n : ℤ) (r : ℕ) → ScalbnRows f x n r
     → ((u : ℕ) → kind f x ≡ finite u → Once f to_even (minus f x) (exact_scalbn f x n) r) → r ≡ scalbn_of f x n
 unfolding scalbn_of
 scalbn_is_settled f g x n r rows rule = scalbn_settled f g ties_to_even x n r rows rule
 
--- code: floor64, floor32, pk_floor64, pk_floor32
+-- code: floor, pk_floor64, pk_floor32
 pub floor_is_settled : (f : Format) → Fair f → (o : ℕ → ℕ) → FloorRows f o → ((x u : ℕ) → kind f x ≡ finite u → Floored f x (o x)) → (x : ℕ) → o x ≡ floor_of f x
 floor_is_settled = floor_settled
 
--- code: trunc64, trunc32, pk_trunc64, pk_trunc32
+-- code: trunc, pk_trunc64, pk_trunc32
 pub trunc_is_settled : (f : Format) → Fair f → (o : ℕ → ℕ) → WholeRows f o → ((x u : ℕ) → kind f x ≡ finite u → Truncated f x (o x)) → (x : ℕ) → o x ≡ trunc_of f x
 trunc_is_settled = trunc_settled
 
--- code: ceil64, ceil32, pk_ceil64, pk_ceil32
+-- code: ceil, pk_ceil64, pk_ceil32
 pub ceil_is_settled : (f : Format) → Fair f → (o : ℕ → ℕ) → CeilRows f o → ((x u : ℕ) → kind f x ≡ finite u → Ceiled f x (o x)) → (x : ℕ) → o x ≡ ceil_of f x
 ceil_is_settled = ceil_settled
 
--- code: modf64, modf32, pk_modf64, pk_modf32
+-- code: modf, pk_modf64, pk_modf32
 pub modf_is_settled : (f : Format) → Fair f → (o w : ℕ → ℕ) → ModfRows f o w → ((x u : ℕ) → kind f x ≡ finite u → Parted f x (o x) (w x))
     → (x : ℕ) → (o x ≡ modf_of f x) × (w x ≡ modf_whole f x)
 modf_is_settled = modf_settled
 
--- code: frexp64, frexp32, pk_frexp64, pk_frexp32
+-- code: frexp, pk_frexp64, pk_frexp32
 pub frexp_is_settled : (f : Format) → Fair f → 3 ≤ f.expo → (o : ℕ → ℕ) (e : ℕ → ℤ) → FrexpRows f o e
     → ((x u : ℕ) → Pattern f x → kind f x ≡ finite (suc u) → Broken f x (o x) (e x)) → (x : ℕ) → Pattern f x → (o x ≡ frexp_of f x) × (e x ≡ frexp_exponent f x)
 frexp_is_settled = frexp_settled
 
--- code: ilogb64, ilogb32, pk_ilogb64, pk_ilogb32
+-- code: ilogb, pk_ilogb64, pk_ilogb32
 pub ilogb_is_settled : (f : Format) → Fair f → (o : ℕ → ℤ) → IlogbRows f o → ((x u : ℕ) → kind f x ≡ finite (suc u) → Leads f x (o x)) → (x : ℕ) → o x ≡ ilogb_of f x
 ilogb_is_settled = ilogb_settled
 
--- code: nextafter64, nextafter32, pk_nextafter64, pk_nextafter32
+-- code: nextafter, pk_nextafter64, pk_nextafter32
 pub nextafter_is_settled : (f : Format) (o : ℕ → ℕ → ℕ) → NextafterRows f o → ((x y : ℕ) → Ordered f x → Ordered f y → Next f x y (o x y))
     → (x y : ℕ) → Pattern f x → Pattern f y → o x y ≡ nextafter_of f x y
 nextafter_is_settled = next_settled
 
--- code: fmod64, fmod32, pk_fmod64, pk_fmod32
+-- code: fmod, pk_fmod64, pk_fmod32
 pub fmod_is_settled : (f : Format) (o : ℕ → ℕ → ℕ) → FmodRows f o
     → ((x y u v : ℕ) → kind f x ≡ finite u → kind f y ≡ finite (suc v) → Left f x y (o x y)) → (x y : ℕ) → o x y ≡ fmod_of f x y
 fmod_is_settled = fmod_settled
 
--- code: remquo64, pk_remquo64
+-- code: remquo, pk_remquo64
 pub remquo_is_settled : (f : Format) (o : ℕ → ℕ → ℕ) (n : ℕ → ℕ → ℤ) → RemquoRows f o n
     → ((x y u v : ℕ) → kind f x ≡ finite u → kind f y ≡ finite (suc v) → NearestLeft f x y (o x y) (n x y)) → (x y : ℕ) → (o x y ≡ remquo_of f x y) × (n x y ≡ quotient_of f x y)
 remquo_is_settled = remquo_settled
@@ -514,7 +515,7 @@ pub nearest_overflows_to_infinity : (f : Format) → Fair f → (t : Ties) (s : 
     → ((raised f (ties_attribute t) s v).overflow ≡ true) ↔ (magnitude f (answer f (ties_attribute t) s v) ≡ inf f)
 nearest_overflows_to_infinity = nearest_overflow
 
--- code: sqrt64_flags, sqrt32_flags, pk_sqrt64_flags, pk_sqrt32_flags
+-- code: sqrt_flags, pk_sqrt64_flags, pk_sqrt32_flags
 -- nothing is left open here either: whatever meets the rows, and for numbers the rules, is the answer with its flags
 pub sqrt_flags_are_settled : (f : Format) → Fair f → (o : ℕ → ℕ) (F : ℕ → Flags) → SqrtRows f o → SqrtFlagRows f F
     → ((x u : ℕ) → kind f x ≡ finite u → (minus f x ≡ true → u ≡ 0) → Once f to_even (minus f x) (exact_sqrt f x) (o x) × FlagsRule f ties_to_even (minus f x) (exact_sqrt f x) (o x) (F x))
@@ -522,7 +523,7 @@ pub sqrt_flags_are_settled : (f : Format) → Fair f → (o : ℕ → ℕ) (F : 
 unfolding sqrt_of sqrt_flags
 sqrt_flags_are_settled f g = sqrt_raises_settled f g ties_to_even
 
--- code: fma64_flags, fma32_flags, pk_fma64_flags, pk_fma32_flags
+-- code: fma_flags, pk_fma64_flags, pk_fma32_flags
 pub fma_flags_are_settled : (f : Format) → Fair f → (x y z r : ℕ) (F : Flags) → FmaRows f ties_to_even x y z r → FmaFlagRows f x y z F
     → ((u v w : ℕ) → kind f x ≡ finite u → kind f y ≡ finite v → kind f z ≡ finite w
     → Once f to_even (zero_sign f ties_to_even x y z) (exact_fma f x y z) r × FlagsRule f ties_to_even (zero_sign f ties_to_even x y z) (exact_fma f x y z) r F)
@@ -530,39 +531,39 @@ pub fma_flags_are_settled : (f : Format) → Fair f → (x y z r : ℕ) (F : Fla
 unfolding fma_of fma_flags
 fma_flags_are_settled f g = fma_raises_settled f g ties_to_even
 
--- code: scalbn64_flags, scalbn32_flags, pk_scalbn64_flags, pk_scalbn32_flags
+-- code: scalbn_flags, pk_scalbn64_flags, pk_scalbn32_flags
 pub scalbn_flags_are_settled : (f : Format) → Fair f → (x : ℕ) (n : ℤ) (r : ℕ) (F : Flags) → ScalbnRows f x n r → ScalbnFlagRows f x F
     → ((u : ℕ) → kind f x ≡ finite u → Once f to_even (minus f x) (exact_scalbn f x n) r × FlagsRule f ties_to_even (minus f x) (exact_scalbn f x n) r F)
     → (r ≡ scalbn_of f x n) × (F ≡ scalbn_flags f x n)
 unfolding scalbn_of scalbn_flags
 scalbn_flags_are_settled f g = scalbn_raises_settled f g ties_to_even
 
--- code: floor64_flags, floor32_flags, pk_floor64_flags, pk_floor32_flags
+-- code: floor_flags, pk_floor64_flags, pk_floor32_flags
 pub floor_flags_are_settled : (f : Format) → Fair f → (o : ℕ → ℕ) (F : ℕ → Flags) → WholeFlagRows f o F → FloorRows f o
     → ((x u : ℕ) → kind f x ≡ finite u → Floored f x (o x)) → (x : ℕ) → (o x ≡ floor_of f x) × (F x ≡ floor_flags f x)
 floor_flags_are_settled = floor_raises_settled
 
--- code: trunc64_flags, trunc32_flags, pk_trunc64_flags, pk_trunc32_flags
+-- code: trunc_flags, pk_trunc64_flags, pk_trunc32_flags
 pub trunc_flags_are_settled : (f : Format) → Fair f → (o : ℕ → ℕ) (F : ℕ → Flags) → WholeFlagRows f o F → WholeRows f o
     → ((x u : ℕ) → kind f x ≡ finite u → Truncated f x (o x)) → (x : ℕ) → (o x ≡ trunc_of f x) × (F x ≡ trunc_flags f x)
 trunc_flags_are_settled = trunc_raises_settled
 
--- code: ceil64_flags, ceil32_flags, pk_ceil64_flags, pk_ceil32_flags
+-- code: ceil_flags, pk_ceil64_flags, pk_ceil32_flags
 pub ceil_flags_are_settled : (f : Format) → Fair f → (o : ℕ → ℕ) (F : ℕ → Flags) → WholeFlagRows f o F → CeilRows f o
     → ((x u : ℕ) → kind f x ≡ finite u → Ceiled f x (o x)) → (x : ℕ) → (o x ≡ ceil_of f x) × (F x ≡ ceil_flags f x)
 ceil_flags_are_settled = ceil_raises_settled
 
 -- ======== Under each of the five attributes of IEEE 754 sqrt, fma and scalbn are the exact value rounded once by that attribute's rule, with its flags; down and up are the tightest band that holds it.
--- code: sqrt64_rounded, sqrt32_rounded, pk_sqrt64_rounded, pk_sqrt32_rounded
+-- code: sqrt_rounded, pk_sqrt64_rounded, pk_sqrt32_rounded
 -- the attributes go by number, 0 to 4: the value and the flags under that attribute; any other number gives 10, zero and no flag
 pub sqrt_goes_by_number : (f : Format) (x : ℕ) → ByNumber (λ a. sqrt_in f a x) (λ a. sqrt_flags_in f a x) (λ n. sqrt_rounded f n x)
 sqrt_goes_by_number = sqrt_by_number
 
--- code: fma64_rounded, fma32_rounded, pk_fma64_rounded, pk_fma32_rounded
+-- code: fma_rounded, pk_fma64_rounded, pk_fma32_rounded
 pub fma_goes_by_number : (f : Format) (x y z : ℕ) → ByNumber (λ a. fma_in f a x y z) (λ a. fma_flags_in f a x y z) (λ n. fma_rounded f n x y z)
 fma_goes_by_number = fma_by_number
 
--- code: scalbn64_rounded, scalbn32_rounded, pk_scalbn64_rounded, pk_scalbn32_rounded
+-- code: scalbn_rounded, pk_scalbn64_rounded, pk_scalbn32_rounded
 pub scalbn_goes_by_number : (f : Format) (x : ℕ) (k : ℤ) → ByNumber (λ a. scalbn_in f a x k) (λ a. scalbn_flags_in f a x k) (λ n. scalbn_rounded f n x k)
 scalbn_goes_by_number = scalbn_by_number
 
@@ -719,21 +720,21 @@ scalbn_has_a_band f g x u n h =
 -- ======== A numeral in ISO C's hexadecimal form is read exactly if its text is in the grammar, and its exact value is rounded once; a pattern is written in the digits that it needs, and read back it is the same pattern.
 -- code: none, the grammar
 -- the grammar in the productions of ISO C and the function that computes it are one
-pub grammar_is_computed : (s : List ℕ) (m : Numeral) → Says s m ↔ (numeral_of s ≡ just m)
+pub grammar_is_computed : (s : List ℕ) (m : Numeral) → Says s m ↔ (numeral_of s ≡ Some m)
 grammar_is_computed s m = (reads_what_it_says, says_what_is_read s m)
 
 -- code: none, the grammar
 pub text_says_one_thing : (s : List ℕ) (m n : Numeral) → Says s m → Says s n → m ≡ n
 text_says_one_thing s m n p q = says_one p q
 
--- code: read_hex64_rounded, read_hex32_rounded, pk_read_hex64_rounded, pk_read_hex32_rounded
+-- code: read_hex_rounded, pk_read_hex64_rounded, pk_read_hex32_rounded
 -- refused with 10 if there is no such attribute, else with 6 past 64 bytes, else with 7 outside the grammar, exactly then, with the value 0; else what the text says, rounded by
 -- the attribute's rule; and only so
 pub reader_is_settled : (f : Format) → Fair f → (n : ℕ) (s : List ℕ) → ReadAs f n s (read_rounded f n s)
     × ((r : Answer) → ReadAs f n s r → (number_of r ≡ number_of (read_rounded f n s)) × (value_of r ≡ value_of (read_rounded f n s)))
 reader_is_settled f g n s = (read_as f g n s, read_settled f g n s)
 
--- code: read_hex64, read_hex32, pk_read_hex64, pk_read_hex32
+-- code: read_hex, pk_read_hex64, pk_read_hex32
 -- the plain reader is that of nearest even
 pub reader_takes_nearest_even : (f : Format) (s : List ℕ) → read_of f s ≡ read_rounded f (attribute_number ties_to_even) s
 reader_takes_nearest_even f s = read_plain f s
@@ -744,7 +745,7 @@ pub numerals_are_exact : (f : Format) (s : Bool) (d k : ℕ) (e : ℤ) → Worth
     × ((a : Attribute) (v : Value) → Worth f s d k e v → answer f a s v ≡ answer f a s (exact_numeral f s d k e))
 numerals_are_exact f s d k e = (exact_worth f s d k e, λ a v h. worth_settles f a s d k e v h)
 
--- code: write_hex64, write_hex32, pk_write_hex64, pk_write_hex32
+-- code: write_hex, pk_write_hex64, pk_write_hex32
 -- refused with 8 exactly where the text is longer than the output, with the length 0 and every byte as it was; else the text's length, its bytes, and those past it as they were; and only so
 pub writer_is_settled : (f : Format) (x : ℕ) (out : List ℕ) → WrittenAs (text_of f x) out (write_of f x out)
     × ((w : Written) → WrittenAs (text_of f x) out w → (number_of w.answer ≡ number_of (write_of f x out).answer) × (value_of w.answer ≡ value_of (write_of f x out).answer) × (w.output ≡ (write_of f x out).output))

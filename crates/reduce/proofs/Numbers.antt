@@ -6,7 +6,7 @@ use native.Mathlib.Nat.{mod-lt}
 use native.Mathlib.Omega.{arith}
 use lib.Pow.{pow_pos, pow_mono}
 use Rattle.algebra.proofs.Products.{order}
-use Rattle.ieee.specs.Refusal.{number_of, value_of}
+use Rattle.ieee.specs.Refusal.{done, number_of, value_of}
 use Rattle.ieee.specs.Reduction.{shift_limit, divisor_limit, reduce_of}
 use Rattle.ieee.specs.ReductionRule.{Fit, ReduceRefusals}
 use Rattle.ieee.proofs.Reductions.{reduction_is, reduce_done}
@@ -47,6 +47,9 @@ module _ (w x e y : ℕ) where
 
   pub value_done : number ≡ 0 → x * 2 ^ e % y ≡ value
   value_done h = let (f, l) = within h in sym (ap value_of (reduce_done w x e y f.0 f.1 l))
+
+  pub answer_done : number ≡ 0 → done (x * 2 ^ e % y) ≡ reduce_of w x e y
+  answer_done h = let (f, l) = within h in sym (reduce_done w x e y f.0 f.1 l)
 
   pub value_refused : 0 < number → 0 ≡ value
   value_refused h = sym ((reduction_is w x e y).no_value (λ z. absurd (omega arith)))

@@ -1,38 +1,23 @@
 // The reduction a bit at a time. The reducer is proved equal to it.
-ghost use Rattle.std.specs.Prelude.{◌≡◌, ◌≤◌, ◌<◌, ◌^◌};
+ghost use Rattle.std.specs.Prelude.{◌≡◌};
 ghost use Rattle.ieee.specs.Reduction.{reduce_of};
-ghost use Rattle.ieee.specs.Refusal.{number_of, value_of};
+ghost use Rattle.fmt_fields.specs.Refused.{answer_of};
+ghost use Rattle.reduce.specs.Bits.{bits_of};
 
-use super::{Reduced32, Reduced64, narrow};
-use crate::refusal::refusal_of;
+use crate::words::{bits_of, reduce_by};
+use fmt_fields::refusal::Refusal;
+use fmt_fields::width::Width;
 use reduce_stepwise::reduce_stepwise;
 
-// On words of so many bits, each in a word of 64.
-pub fn plain_words(bits: u32, x: u64, e: u32, y: u64) -> Reduced64
-    requires { (2 ≤ bits) × (bits ≤ 64) }
-    ensures { (result.refusal ≡ number_of (reduce_of bits x e y)) × (result.value ≡ value_of (reduce_of bits x e y)) × (result.value < 2 ^ bits) }
+pub fn plain<W: Width>(x: W, e: u32, y: W) -> Result<W, Refusal>
+    ensures { answer_of W.pattern result ≡ reduce_of (bits_of W.layout) (W.pattern x) e (W.pattern y) }
 {
-    let refusal = refusal_of(bits, x, e, y);
-    if refusal > 0 {
-        return Reduced64 {
-            refusal: refusal,
-            value: 0,
-        };
-    }
-    Reduced64 {
-        refusal: 0,
-        value: reduce_stepwise(x, e, y),
-    }
-}
-
-pub fn plain64(x: u64, e: u32, y: u64) -> Reduced64
-    ensures { (result.refusal ≡ number_of (reduce_of 64 x e y)) × (result.value ≡ value_of (reduce_of 64 x e y)) }
-{
-    plain_words(64, x, e, y)
-}
-
-pub fn plain32(x: u32, e: u32, y: u32) -> Reduced32
-    ensures { (result.refusal ≡ number_of (reduce_of 32 x e y)) × (result.value ≡ value_of (reduce_of 32 x e y)) }
-{
-    narrow(plain_words(32, x as u64, e, y as u64))
+    let left = reduce_by(
+        bits_of(W::format()),
+        x.widen(),
+        e,
+        y.widen(),
+        reduce_stepwise,
+    )?;
+    Ok(W::narrow(left))
 }

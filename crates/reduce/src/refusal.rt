@@ -1,35 +1,36 @@
 // The refusals of the reduction.
-ghost use Rattle.std.specs.Prelude.{◌≡◌, ◌≤◌};
+ghost use Rattle.std.specs.Prelude.{◌≡◌, ◌≤◌, MatchResult};
 ghost use Rattle.ieee.specs.Reduction.{reduce_of};
 ghost use Rattle.ieee.specs.Refusal.{number_of};
+ghost use Rattle.fmt_fields.specs.Refused.{refusal_number};
+ghost use Rattle.reduce.specs.Bits.{bits_of};
 
+use crate::words::bits_of;
+use fmt_fields::refusal::Refusal;
+use fmt_fields::width::Width;
 use word_bits::pow;
 
 // On words of so many bits. The divisor is tested first, so that twice y cannot wrap. The second test refuses a divisor of 0, since no x is below 0.
-pub fn refusal_of(bits: u32, x: u64, e: u32, y: u64) -> u32
-    requires { (2 ≤ bits) × (bits ≤ 64) }
-    ensures { result ≡ number_of (reduce_of bits x e y) }
+pub fn refusal_of(bits: u32, x: u64, e: u32, y: u64) -> Result<(), Refusal>
+    requires least { 2 ≤ bits }
+    requires most { bits ≤ 64 }
+    ensures { MatchResult result (λ _. 0 ≡ number_of (reduce_of bits x e y)) (λ r. refusal_number r ≡ number_of (reduce_of bits x e y)) }
 {
     if y >= pow(bits - 2) {
-        return 4;
+        return Err(Refusal::BeyondDivisor);
     }
     if x >= 2 * y {
-        return 4;
+        return Err(Refusal::BeyondDivisor);
     }
     if e > 4096 {
-        return 5;
+        return Err(Refusal::ShiftTooLong);
     }
-    0
+    Ok(())
 }
 
-pub fn refusal64(x: u64, e: u32, y: u64) -> u32
-    ensures { result ≡ number_of (reduce_of 64 x e y) }
+pub fn refusal<W: Width>(x: W, e: u32, y: W) -> Result<(), Refusal>
+    ensures { MatchResult result (λ _. 0 ≡ number_of (reduce_of (bits_of W.layout) (W.pattern x) e (W.pattern y)))
+        (λ r. refusal_number r ≡ number_of (reduce_of (bits_of W.layout) (W.pattern x) e (W.pattern y))) }
 {
-    refusal_of(64, x, e, y)
-}
-
-pub fn refusal32(x: u32, e: u32, y: u32) -> u32
-    ensures { result ≡ number_of (reduce_of 32 x e y) }
-{
-    refusal_of(32, x as u64, e, y as u64)
+    refusal_of(bits_of(W::format()), x.widen(), e, y.widen())
 }

@@ -41,19 +41,16 @@ after_start {w} {n} {x} {m} {r} {t} l a =
     let s = state_of l a in
     record { state = subst (λ h. State w n h m r t) (sym s.holds) s; left = subst (Left n x 0) (sym s.holds) (left_at_first n x) }
 
-after_step : {w n x i k m r t a m' r' t' : ℕ} → 3 ≤ w → After w n x i m r t → Stepped w k m r t a m' r' t' → After w n x (i + k) m' r' t'
+pub after_step : {w n x i k m r t a m' r' t' : ℕ} → 3 ≤ w → After w n x i m r t → Stepped w k m r t a m' r' t' → After w n x (i + k) m' r' t'
 after_step {w} {n} {x} {i} {k} {m} {r} {t} {a} {m'} {r'} {t'} l b s =
     record {
       state = state_of l (subst (λ j. Holds w j (held_of w m' t') m' r' t') b.state.divisor s.holds);
       left = left_after b.left k a (held_of w m' t') (s.parts ∙ ap (λ j. a * j + held_of w m' t') b.state.divisor);
     }
 
--- with l of e bits left: a step by k of them, and the last, by all of them
+-- with l of e bits left: a step by k of them
 pub after_round : {w n x e l k m r t a m' r' t' : ℕ} → 3 ≤ w → k ≤ l → l ≤ e → After w n x (e - l) m r t → Stepped w k m r t a m' r' t' → After w n x (e - (l - k)) m' r' t'
 after_round {w} {n} {x} {m' = m'} {r'} {t'} b c d p q = subst (λ i. After w n x i m' r' t') (omega arith) (after_step b p q)
-
-pub after_last : {w n x e l m r t a m' r' t' : ℕ} → 3 ≤ w → l ≤ e → After w n x (e - l) m r t → Stepped w l m r t a m' r' t' → After w n x e m' r' t'
-after_last {w} {n} {x} {m' = m'} {r'} {t'} b d p q = subst (λ i. After w n x i m' r' t') (omega arith) (after_step b p q)
 
 -- the remainder of what is held is the remainder of x times 2 ^ i
 pub left_at_last : {n x i h : ℕ} → 0 < n → Left n x i h → h % n ≡ x * 2 ^ i % n

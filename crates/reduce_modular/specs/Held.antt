@@ -12,9 +12,6 @@ Holds n x s = laws.Holds 64 n x s.m s.r (value s.product)
 abbrev pub held : Reducer → ℕ
 held s = laws.held_of 64 s.m (value s.product)
 
-abbrev pub Reduces : Reducer → Type 0
-Reduces s = laws.Reduces 64 s.m s.r (value s.product)
-
 -- a step by 2 ^ k, with the quotient a
 abbrev pub Stepped : ℕ → Reducer → ℕ → Reducer → Type 0
 Stepped k s a z = laws.Stepped 64 k s.m s.r (value s.product) a z.m z.r (value z.product)

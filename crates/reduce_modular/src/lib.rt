@@ -3,5 +3,5 @@
 
 pub mod modular;
 pub mod reducer;
-pub mod short;
+pub mod scale;
 pub mod start;

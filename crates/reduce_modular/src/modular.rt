@@ -1,11 +1,13 @@
 // The reduction, x times 2^e modulo y, on 64-bit words: each step of the reducer takes 63 bits of the shift.
-ghost use Rattle.std.specs.Prelude.{◌≡◌, ◌+◌, ◌-◌, ◌*◌, ◌%◌, ◌≤◌, ◌<◌, ◌^◌, eqb};
-ghost use Rattle.std.specs.Int.Count.{count_leading_zeros};
+// x, e and y stay three parameters: they are the operands, and a step hands on another x and another e. That x is below 2y relates two of them, anew at
+// each step, and the bound on y is another in each function: the reducer's, a word's or that of a short divisor.
+ghost use Rattle.std.specs.Prelude.{◌≡◌, ◌+◌, ◌-◌, ◌*◌, ◌%◌, ◌≤◌, ◌<◌, ◌^◌};
 ghost use Rattle.reduce_laws.specs.Reducer.{Power};
 ghost use Rattle.reduce_modular.specs.Held.{Starts};
 
 use crate::reducer::Reducer;
-use crate::start::start;
+use crate::scale::Scaled;
+use crate::start::{start, start_short};
 use reduce_stepwise::subtract_once;
 use word_division::digit::Divided;
 
@@ -26,49 +28,46 @@ pub fn by_words(x: u64, e: u32, n: u64, d: Divided) -> u64
     ensures { result ≡ x * 2 ^ e % n }
 {
     let mut state = Reducer::new(x, n, d);
-    let mut left = e;
-    while left >= 63 {
-        let step = state.word_reduce();
-        state = step.state;
-        left -= 63;
+    for _ in 0..e / 63 {
+        state = state.word_reduce().state;
     }
-    let last = state.shift_reduce(left);
-    let r = last.state.partial_remainder();
-    subtract_once(r, n)
+    let last = state.shift_reduce(e % 63);
+    subtract_once(last.state.partial_remainder(), n)
 }
 
-// The scale that leaves y two leading zeros.
-pub fn scale_of(y: u64) -> u32
-    requires { (0 < y) × (y < 2 ^ 62) }
-    ensures { (result ≡ count_leading_zeros 64 y - 2) × (result < 62) × (2 ^ 61 ≤ y * 2 ^ result) × (y * 2 ^ result < 2 ^ 62) × (y ≤ y * 2 ^ result) }
+// By a scaled divisor: x is scaled with it, and the remainder is scaled back. d is the division with which the reducer starts.
+pub fn by_scaled(x: u64, e: u32, n: Scaled, d: Divided) -> u64
+    requires { (x < 2 * n.y) × Starts (n.y * 2 ^ n.s) d }
+    ensures { result ≡ x * 2 ^ e % n.y }
 {
-    u64::leading_zeros(y) - 2
+    by_words(x << n.s, e, n.y << n.s, d) >> n.s
 }
 
-// Whether y is a power of two, by its only bit: scaled by s it is 2^61.
-pub fn is_power(y: u64, s: u32) -> bool
-    requires { (s < 62) × (y * 2 ^ s < 2 ^ 62) }
-    ensures { result ≡ eqb (y * 2 ^ s) (2 ^ 61) }
-{
-    y << s == 0x2000_0000_0000_0000
-}
-
-// By a y that is no power of two, scaled by s, and x with it; the remainder is then scaled back. d is the division with which the reducer starts.
-pub fn by_scaled(x: u64, e: u32, y: u64, s: u32, d: Divided) -> u64
-    requires { (x < 2 * y) × (s < 62) × (2 ^ 61 < y * 2 ^ s) × (y * 2 ^ s < 2 ^ 62) × Starts (y * 2 ^ s) d }
+// By y, where start is how the reducer starts for it: a power of two has a way of its own.
+#[inline(always)]
+fn reduce_from<F: FnOnce(Scaled) -> Divided>(x: u64, e: u32, y: u64, start: F) -> u64
+    requires limits { (x < 2 * y) × (y < 2 ^ 62) }
+    requires may_start { (n : Scaled) → n.y ≡ y → F.pre start n }
+    requires starts { (n : Scaled) (d : Divided) → F.post start n d → Starts (n.y * 2 ^ n.s) d }
     ensures { result ≡ x * 2 ^ e % y }
 {
-    by_words(x << s, e, y << s, d) >> s
+    match Scaled::of(y) {
+        None => by_power(x, e, y),
+        Some(n) => by_scaled(x, e, n, start(n)),
+    }
 }
 
-// The divisor is scaled until it has two leading zeros, as the reducer requires.
 pub fn linear_mul_reduction(x: u64, e: u32, y: u64) -> u64
     requires { (x < 2 * y) × (y < 2 ^ 62) × (e < 2 ^ 31) }
     ensures { result ≡ x * 2 ^ e % y }
 {
-    let s = scale_of(y);
-    if is_power(y, s) {
-        return by_power(x, e, y);
-    }
-    by_scaled(x, e, y, s, start(y, s))
+    reduce_from(x, e, y, start)
+}
+
+// By a y of at most 31 bits, without a long division: where every y is short, as in fmod at 32 bits, no call is left.
+pub fn linear_mul_short(x: u64, e: u32, y: u64) -> u64
+    requires { (x < 2 * y) × (y < 2 ^ 31) × (e < 2 ^ 31) }
+    ensures { result ≡ x * 2 ^ e % y }
+{
+    reduce_from(x, e, y, start_short)
 }

@@ -1,13 +1,12 @@
 // The reducer on words of 64 bits: the remainder of x times 2^k by n, for k below 64, with two products and no division.
-ghost use Rattle.std.specs.Prelude.{◌≡◌, ◌+◌, ◌*◌, ◌<◌, ◌^◌};
-ghost use Rattle.reduce_modular.specs.Held.{Starts, Holds, held, Reduces, Stepped};
+ghost use Rattle.word_wide.specs.Value.{value};
+ghost use Rattle.reduce_laws.specs.Reducer.{Reduces};
 
 use word_bits::low_bits;
 use word_division::digit::Divided;
 use word_wide::Wide;
 use word_wide::product::{mul, mul_hi, mul_lo};
 use word_wide::shift::shl;
-use word_wide::sum::add;
 
 // For the divisor n: m is 2n, and with R = 2^64 and RR/2 = qm + r the remainder x is kept as 2xq. Only `new` needs q itself.
 #[derive(Clone, Copy)]
@@ -15,6 +14,7 @@ pub struct Reducer {
     pub m: u64,
     pub r: u64,
     pub product: Wide,
+    ghost reduces: { Reduces 64 m r (value product) },
 }
 
 // The state after a step, and the quotient of the step.
@@ -26,6 +26,9 @@ pub struct Step {
 
 // The contracts leave one state, `holds_only`, and one quotient, `stepped_only` (crates/reduce_laws/proofs/Only.antt).
 impl Reducer {
+    ghost use Rattle.std.specs.Prelude.{◌≡◌, ◌+◌, ◌*◌, ◌<◌, ◌^◌};
+    ghost use Rattle.reduce_modular.specs.Held.{Starts, Holds, held, Stepped};
+
     // q has one bit more than a word. d, the division with which a reducer for n starts, gives its other bits, f = q - R, and r.
     pub fn new(x: u64, n: u64, d: Divided) -> Reducer
         requires { (2 ^ 61 < n) × (n < 2 ^ 62) × (x < 2 * n) × Starts n d }
@@ -44,7 +47,6 @@ impl Reducer {
 
     // The remainder so far, below 2n. With u the upper word, m(u + 2) is xR plus something below R.
     pub fn partial_remainder(self) -> u64
-        requires { Reduces self }
         ensures { result ≡ held self }
     {
         mul_hi(self.m, self.product.hi + 2)
@@ -52,7 +54,7 @@ impl Reducer {
 
     // The remainder times 2^k, less the quotient times n. 2xq 2^k by RR/2 gives the quotient a; each RR/2 leaves r.
     pub fn shift_reduce(self, k: u32) -> Step
-        requires { Reduces self × (k < 64) }
+        requires { k < 64 }
         ensures { Stepped k self result.quotient result.state }
     {
         let a = self.product.hi >> (63 - k);
@@ -67,7 +69,7 @@ impl Reducer {
             state: Reducer {
                 m: self.m,
                 r: self.r,
-                product: add(mul(a, self.r), b),
+                product: mul(a, self.r) + b,
             },
             quotient: a,
         }
@@ -75,7 +77,6 @@ impl Reducer {
 
     // The same for k = 63: the quotient is the upper word, and the part below RR/2 is half the lower word, which is even.
     pub fn word_reduce(self) -> Step
-        requires { Reduces self }
         ensures { Stepped 63 self result.quotient result.state }
     {
         let u = self.product.hi;

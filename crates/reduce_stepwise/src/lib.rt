@@ -17,10 +17,8 @@ pub fn reduce_stepwise(x: u64, e: u32, y: u64) -> u64
     ensures { result ≡ x * 2 ^ e % y }
 {
     let mut r = x;
-    let mut i: u32 = 0;
-    while i < e {
+    for _ in 0..e {
         r = subtract_once(r, y) * 2;
-        i += 1;
     }
     subtract_once(r, y)
 }

@@ -5,16 +5,18 @@ use Rattle.algebra.proofs.Products.{times, times_le, mul_le_cancel}
 use Rattle.algebra.proofs.Quotients.{div_mod, div_is}
 use Rattle.algebra.proofs.Powers.{pow_diff}
 use Rattle.algebra.proofs.Integers.{up, add_z, sub_z, one_z, eq_z_fact}
-use Rattle.ieee.specs.Format.{Format, low, units, inf}
+use Rattle.ieee.specs.Format.{Format, top, low, units, inf}
 use Rattle.ieee.specs.Pattern.{Pattern, minus, magnitude, signed, unlike, with_sign, kind, finite}
-use Rattle.ieee.specs.Round.{exactly}
+use Rattle.ieee.specs.Exact.{ratio}
+use Rattle.ieee.specs.Round.{even, exactly}
 use Rattle.ieee.specs.Remquo.{remquo_of, quotient_of}
 use Rattle.ieee.proofs.Units.{units_lt, units_zero}
-use Rattle.ieee.proofs.Patterns.{kind_finite}
+use Rattle.ieee.proofs.Past.{rounded_le}
+use Rattle.ieee.proofs.Patterns.{inf_below_top, pattern_signed, kind_finite}
 use Rattle.ieee.proofs.Remquos.{remquo_rows}
 use Rattle.fmt_fields.specs.Width.{format, Fits}
 use Rattle.fmt_exponents.specs.Field.{above}
-use Rattle.remquo.specs.Nearest.{goes_up, counted, left_over}
+use Rattle.remquo.specs.Nearest.{goes_up, counted, left_over, Divides}
 use Rattle.fmt_decode.specs.Significand.{Normalised, units_at, InRange}
 use Rattle.fmt_decode.proofs.Significands.{normal_is}
 use Rattle.remquo.proofs.Nearest.{value-by-division, quotient_by_division, left_below_infinity}
@@ -39,14 +41,22 @@ pub record Settles (p e x y rem div quo : ℕ) (exp : ℤ) : Type 0 where
   pub value : signed (format p e) (unlike (minus (format p e) x) (goes_up rem div quo)) (exactly (format p e) (units_at (format p e) (left_over rem div quo) exp)) ≡ remquo_of (format p e) x y
   pub quotient : with_sign (unlike (minus (format p e) x) (minus (format p e) y)) (counted rem div quo % 2 ^ 31) ≡ quotient_of (format p e) x y
 
+-- what is rounded exactly has room for the sign above it
+pub exactly_fits : (f : Format) (u : ℕ) → exactly f u < top f
+exactly_fits f u = omega (arith, rounded_le f even (ratio u 1), inf_below_top f)
+
 -- the same with the signs as computed
 pub settled_is : {p e x y rem div quo : ℕ} {exp : ℤ} → Settles p e x y rem div quo exp → (s t : Bool) → s ≡ minus (format p e) x → t ≡ minus (format p e) y → (v : ℕ) (q : ℤ)
     → v ≡ signed (format p e) (unlike s (goes_up rem div quo)) (exactly (format p e) (units_at (format p e) (left_over rem div quo) exp)) → q ≡ with_sign (unlike s t) (counted rem div quo % 2 ^ 31)
-    → (v ≡ remquo_of (format p e) x y) × (q ≡ quotient_of (format p e) x y)
-settled_is {p} {e} {x} {y} {rem} {div} {quo} {exp} z s t i j v q h k = (
-  h ∙ ap (λ b. signed (format p e) (unlike b (goes_up rem div quo)) (exactly (format p e) (units_at (format p e) (left_over rem div quo) exp))) i ∙ z.value,
-  k ∙ ap₂ (λ a b. with_sign (unlike a b) (counted rem div quo % 2 ^ 31)) i j ∙ z.quotient,
-)
+    → Divides (format p e) x y v q
+settled_is {p} {e} {x} {y} {rem} {div} {quo} {exp} z s t i j v q h k =
+    let f = format p e in
+    let u = units_at f (left_over rem div quo) exp in
+    record {
+      value = h ∙ ap (λ b. signed f (unlike b (goes_up rem div quo)) (exactly f u)) i ∙ z.value;
+      quotient = k ∙ ap₂ (λ a b. with_sign (unlike a b) (counted rem div quo % 2 ^ 31)) i j ∙ z.quotient;
+      pattern = subst (Pattern f) (sym h) (pattern_signed f (unlike s (goes_up rem div quo)) (exactly f u) (exactly_fits f u));
+    }
 
 -- ---- one operand
 record Placed (f : Format) (x s at : ℕ) (exp : ℤ) : Type 0 where
@@ -132,11 +142,11 @@ module _ {p e x y sx sy : ℕ} {ex ey : ℤ} {nx ny : Bool} (o : Operands p e x 
       }
 
   -- y is more than twice x
-  pub all_left : (n : ℕ) → n ≡ above (ex -ℤ ey +ℤ pos 2) → n ≡ 0 → (x ≡ remquo_of f x y) × (pos 0 ≡ quotient_of f x y)
+  pub all_left : (n : ℕ) → n ≡ above (ex -ℤ ey +ℤ pos 2) → n ≡ 0 → Divides f x y x (pos 0)
   all_left n h z =
       let l : a.0 + 2 ≤ b.0 = omega (arith, far_is n h) in
       let (r, q) = (remquo_rows f).below_half_y x y u v o.pattern is_x is_y half in
-      (sym r, sym q)
+      record { value = sym r; quotient = sym q; pattern = o.pattern }
     where
       half : 2 * u ≤ suc v
       half =
@@ -155,10 +165,11 @@ module _ {p e x y sx sy : ℕ} {ex ey : ℤ} {nx ny : Bool} (o : Operands p e x 
       (ap (λ t. t * 2 ^ p) units_y ∙ b.1.counts ∙ ap (λ k. sy * 2 ^ k) l ∙ omega (arith, times sy (two-pow-succ a.0)))
       (sym r) (omega (arith, q))
 
-  pub not_below : (n rem quo : ℕ) → n ≡ above (ex -ℤ ey +ℤ pos 2) → 2 ≤ n → rem ≡ sx * 2 ^ (n - 2) % sy → quo ≡ sx * 2 ^ (n - 2) / sy % 2 ^ 32 → Settles p e x y rem sy quo ey
-  not_below n rem quo h l r q =
+  pub not_below : (n rem quo : ℕ) → n ≡ above (ex -ℤ ey +ℤ pos 2) → 2 ≤ n → rem ≡ sx * 2 ^ (n - 2) % sy → quo ≡ sx * 2 ^ (n - 2) / sy % 2 ^ 32 → {d : ℕ} → d ≡ sy → Settles p e x y rem d quo ey
+  not_below n rem quo h l r q i =
       let g : b.0 ≤ a.0 = omega (arith, far_is n h) in
       let k : a.0 - b.0 ≡ n - 2 = omega (arith, far_is n h) in
-      settles (sx * 2 ^ (n - 2)) sy b.0 rem quo ey b.1.exponent b.1.range (omega (arith, b.1.least, pow_pos p)) (omega (arith, b.1.most, pow-add 2 p 2))
+      subst (λ d. Settles p e x y rem d quo ey) (sym i)
+      (settles (sx * 2 ^ (n - 2)) sy b.0 rem quo ey b.1.exponent b.1.range (omega (arith, b.1.least, pow_pos p)) (omega (arith, b.1.most, pow-add 2 p 2))
       (a.1.counts ∙ omega (arith, times sx (pow_diff g)) ∙ ap (λ i. sx * 2 ^ i * 2 ^ b.0) k)
-      (ap (λ t. t * 2 ^ p) units_y ∙ b.1.counts) r q
+      (ap (λ t. t * 2 ^ p) units_y ∙ b.1.counts) r q)

@@ -1,7 +1,7 @@
 -- The location of shifted-out bits: the last bit of a quotient and whether its remainder is 0. Assumes nothing.
 use Prim.Native.Nat.{ℕ, zero, suc, ◌+◌, ◌-◌, ◌*◌, ◌/◌, ◌%◌, ◌^◌, ◌≤◌, ◌<◌}
 use mathlib.Core.Path.{◌≡◌, sym, ap, ◌∙◌}
-use mathlib.Core.Bool.{Bool, true, false, cond}
+use mathlib.Core.Bool.{Bool, cond}
 use native.Mathlib.Omega.{arith}
 use lib.Dec.{leb, eqb}
 use lib.Pow.{pow-add, pow_pos}
@@ -44,10 +44,6 @@ module _ (s j k d : ℕ) (e : d ≡ 2 ^ j) (i : k ≡ suc j) where
 
   pub shed_location : 2 * (s / d % 2) + cond (eqb (s % d) 0) 0 1 ≡ part (s % 2 ^ k) (2 ^ k)
   shed_location = ap (λ n. 2 * (s / n % 2) + cond (eqb (s % n) 0) 0 1) e ∙ sym (part_of_halves s (2 ^ j) (pow_pos j)) ∙ ap (λ n. part (s % n) n) doubled
-
-pub mark_le : (b : Bool) → cond b 0 1 ≤ 1
-mark_le true = omega arith
-mark_le false = omega arith
 
 -- the last k bits at the top of a word
 pub top_bits : (s k : ℕ) → k ≤ 64 → s * 2 ^ (64 - k) % 2 ^ 64 ≡ s % 2 ^ k * 2 ^ (64 - k)

@@ -1,13 +1,13 @@
 -- Lower neighbours inside the range and outside it, by their exponent field; inside it only inexact can be raised. Assumes nothing.
 use Prim.Native.Nat.{ℕ, suc, ◌+◌, ◌-◌, ◌*◌, ◌^◌, ◌≤◌, ◌<◌}
-use mathlib.Core.Path.{◌≡◌, refl, sym, ap₂, ◌∙◌}
+use mathlib.Core.Path.{◌≡◌, refl, sym, ap₂}
 use mathlib.Core.Bool.{Bool, true, false, not, ◌&&◌, ◌||◌}
 use native.Mathlib.Omega.{arith}
 use lib.Dec.{leb, ltb, eqb}
-use lib.Pow.{pow_pos, pow_mono}
+use lib.Pow.{pow_pos}
 use borrow.Author.Tests.{le-leb, lt-leb, lt-ltb, le-ltb, ne_eqb}
-use Rattle.algebra.proofs.Products.{order, times_le}
-use Rattle.ieee.specs.Format.{Format, Fair, inf}
+use Rattle.algebra.proofs.Products.{times_le}
+use Rattle.ieee.specs.Format.{Format, inf}
 use Rattle.ieee.specs.Round.{Way}
 use Rattle.ieee.specs.Flags.{judged, only_inexact, largest}
 use Rattle.ieee.proofs.Decide.{Reads, holds, leb_reads, and_reads}

@@ -23,7 +23,7 @@ pub fn normalise(sig: u64, exp: i32) -> Normal
     requires { (0 < sig) × (mag exp ≤ 2 ^ 20) }
     ensures { (result.sig ≡ sig * 2 ^ count_leading_zeros 64 sig) × (pos result.at ≡ exp -ℤ pos (count_leading_zeros 64 sig) +ℤ pos 2097152) }
 {
-    let zeros = u64::leading_zeros(sig);
+    let zeros = sig.leading_zeros();
     Normal {
         sig: sig << zeros,
         at: offset_exponent(exp, zeros),

@@ -11,7 +11,7 @@ use Rattle.ieee.specs.Format.{Format, Fair}
 use Rattle.ieee.specs.Pattern.{with_sign}
 use Rattle.ieee.specs.Exact.{dyadic}
 use Rattle.ieee.specs.Round.{Attribute, way_of}
-use Rattle.ieee.specs.Flags.{raised_by, raised}
+use Rattle.ieee.specs.Flags.{raised_by}
 use Rattle.ieee.specs.Scalbn.{scaled}
 use Rattle.round_laws.specs.Location.{stretched}
 use Rattle.round_laws.proofs.Stretched.{stretched_ratio}

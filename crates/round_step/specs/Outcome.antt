@@ -9,14 +9,15 @@ use Rattle.round_laws.specs.Location.{chosen}
 use Rattle.round_laws.specs.Flags.{flags_by}
 use Rattle.round_locate.specs.declared.locate.Located.{Located}
 use Rattle.fmt_fields.specs.Raised.{flags_of}
-use Rattle.round_step.specs.declared.round.Rounded.{Rounded}
+use Rattle.fmt_fields.specs.declared.env.Flagged.{Flagged}
+use Rattle.fmt_fields.specs.declared.env.Raised.{Raised}
 
 abbrev pub outcome : Format → Attribute → Bool → Value → ℕ × Flags
 outcome f a s v = (answer f a s v, raised f a s v)
 
 -- and the same as the code has it
-abbrev pub told : Rounded → ℕ × Flags
-told r = (r.bits, flags_of r.flags)
+abbrev pub told : Flagged ℕ Raised → ℕ × Flags
+told r = (r.value, flags_of r.flags)
 
 -- what the location of a value with the sign s gives
 abbrev pub chosen_with : Format → Attribute → Bool → Located → ℕ × Flags

@@ -4,13 +4,14 @@ ghost use Rattle.ieee.specs.Round.{way_of};
 ghost use Rattle.fmt_fields.specs.Raised.{attribute_of};
 ghost use Rattle.round_laws.specs.Location.{chosen};
 
-use fmt_fields::env::Attribute;
+use fmt_fields::attribute::Attribute;
 
+// A magnitude, or the next one.
 fn next_if(below: u64, next: bool) -> u64
     requires { below < 2 ^ 63 }
     ensures { result ≡ below + cond next 1 0 }
 {
-    if next { below + 1 } else { below }
+    below + u64::from(next)
 }
 
 // Down and up have no jump for the sign, which cannot be foreseen.

@@ -2,13 +2,14 @@
 ghost use Rattle.std.specs.Prelude.{◌≡◌, not, ◌&&◌, ◌||◌, cond, suc, ◌<◌, ◌≤◌, ◌^◌, ltb, eqb};
 ghost use Rattle.ieee.specs.Format.{inf};
 ghost use Rattle.ieee.specs.Flags.{largest};
-ghost use Rattle.fmt_fields.specs.Width.{format, Fits};
+ghost use Rattle.fmt_fields.specs.Layout.{format_of};
 ghost use Rattle.ieee.specs.Round.{way_of};
 ghost use Rattle.fmt_fields.specs.Raised.{flags_of, attribute_of};
 ghost use Rattle.round_laws.specs.Flags.{exceeds, rises, flags_by};
 
-use fmt_fields::env::{Attribute, Raised, judge};
-use fmt_fields::pattern::infinity;
+use fmt_fields::attribute::Attribute;
+use fmt_fields::env::Raised;
+use fmt_fields::layout::Format;
 use round_locate::locate::Located;
 use word_bits::pow;
 
@@ -45,14 +46,11 @@ fn rises_to_normal(attribute: Attribute, neg: bool, location: u64, high: bool, b
     }
 }
 
-fn overflows(frac: u32, expo: u32, below: u64, past: bool) -> bool
-    requires { Fits frac expo }
-    ensures { result ≡ eqb below (largest (format frac expo)) && past }
+// Past the largest finite number, which is just below infinity.
+fn overflows(fmt: Format, below: u64, past: bool) -> bool
+    ensures { result ≡ eqb below (largest (format_of fmt)) && past }
 {
-    if below == infinity(frac, expo) - 1 {
-        return past;
-    }
-    false
+    below == fmt.infinity() - 1 && past
 }
 
 // Tininess is judged after rounding: just below the least normal number, the value may be rounded to it.
@@ -68,12 +66,13 @@ fn is_tiny(frac: u32, below: u64, normal: bool) -> bool
     next < least
 }
 
-pub fn flags_at(frac: u32, expo: u32, attribute: Attribute, neg: bool, c: Located) -> Raised
-    requires { Fits frac expo × (c.below < inf (format frac expo)) }
-    ensures { flags_of result ≡ flags_by (format frac expo) (way_of (attribute_of attribute) neg) c.below c.location c.high c.beyond }
+// The flags of a value at its lower neighbour, which is finite.
+pub fn flags_at(fmt: Format, attribute: Attribute, neg: bool, c: Located) -> Raised
+    requires { c.below < inf (format_of fmt) }
+    ensures { flags_of result ≡ flags_by (format_of fmt) (way_of (attribute_of attribute) neg) c.below c.location c.high c.beyond }
 {
     let past = exceeds_largest(attribute, neg, c.location, c.beyond);
     let normal = rises_to_normal(attribute, neg, c.location, c.high, c.beyond);
-    let over = overflows(frac, expo, c.below, past);
-    judge(over, is_tiny(frac, c.below, normal), c.location >= 1)
+    let over = overflows(fmt, c.below, past);
+    Raised::judge(over, is_tiny(fmt.frac, c.below, normal), c.location >= 1)
 }

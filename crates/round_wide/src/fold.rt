@@ -24,7 +24,7 @@ pub fn fold(w: Wide) -> Folded
     if w.hi == 0 {
         return Folded { sig: w.lo, down: 0 };
     }
-    let zeros = u64::leading_zeros(w.hi);
+    let zeros = w.hi.leading_zeros();
     let kept = (w.hi << zeros) + shl_carry(w.lo, zeros);
     let rest = w.lo << zeros;
     Folded {

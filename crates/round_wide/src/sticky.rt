@@ -1,5 +1,5 @@
 // Shifts that keep a sticky mark: the last bit is set where a nonzero bit was dropped.
-ghost use Rattle.std.specs.Prelude.{◌≡◌, cond, ◌+◌, ◌*◌, ◌/◌, min};
+ghost use Rattle.std.specs.Prelude.{◌≡◌, cond, ◌+◌, ◌*◌, ◌/◌};
 ghost use Rattle.word_wide.specs.Value.{value};
 ghost use Rattle.round_wide.specs.Stuck.{stuck};
 
@@ -14,19 +14,12 @@ pub fn set_sticky(word: u64, lost: bool) -> u64
     if lost { word / 2 * 2 + 1 } else { word }
 }
 
-// The smaller of k and 63: a word that is shifted by more leaves only the mark, as by 63.
-fn at_most_63(k: u32) -> u32
-    ensures { result ≡ min k 63 }
-{
-    if k < 63 { k } else { 63 }
-}
-
-// v without its last k bits, for every k, with a sticky mark.
+// v without its last k bits, for every k, with a sticky mark. A word that is shifted by more than 63 leaves only the mark, as by 63.
 pub fn shr_sticky(v: u64, k: u32) -> u64
     ensures { result ≡ stuck v k }
 {
-    let kept = shr_lost(v, at_most_63(k));
-    set_sticky(kept.word, kept.lost)
+    let kept = shr_lost(v, k.min(63));
+    set_sticky(kept.value, kept.lost)
 }
 
 // The same for two words. The mark is in the low one.
@@ -35,7 +28,7 @@ pub fn shr_sticky_wide(v: Wide, k: u32) -> Wide
 {
     let kept = shr(v, k);
     Wide {
-        hi: kept.wide.hi,
-        lo: set_sticky(kept.wide.lo, kept.lost),
+        hi: kept.value.hi,
+        lo: set_sticky(kept.value.lo, kept.lost),
     }
 }

@@ -1,107 +1,87 @@
 // scalbn under an attribute: x times 2^n, rounded once, with the flags.
-ghost use Rattle.std.specs.Prelude.{◌≡◌};
-ghost use Rattle.ieee.specs.Format.{b64, b32};
+ghost use Rattle.std.specs.Prelude.{◌≡◌, ◌≢◌, true, false, ℤ};
+ghost use Rattle.ieee.specs.Pattern.{Pattern, field};
 ghost use Rattle.ieee.specs.Scalbn.{scalbn_in, scalbn_flags_in};
 ghost use Rattle.ieee.specs.Rounded.{scalbn_rounded};
+ghost use Rattle.fmt_fields.specs.Layout.{format_of};
+ghost use Rattle.fmt_fields.specs.Normal.{normal};
 ghost use Rattle.fmt_fields.specs.Raised.{flags_of, attribute_of};
-ghost use Rattle.fmt_fields.specs.Numbered.{answer64, answer32};
+ghost use Rattle.fmt_fields.specs.Numbered.{rounded_of};
+ghost use Rattle.scalbn.specs.Scales.{Scales};
 
 use crate::classes::{locate_moved, locate_subnormal, moved_field};
 use crate::moves::{scale_special, with_field};
-use fmt_fields::env::{Attribute, Raised32, Raised64, invalid_if, no_flags};
-use fmt_fields::numbered::{
-    Answer32, Answer64, accept32, accept64, attribute_of, is_attribute, refuse32, refuse64,
-};
-use fmt_fields::pattern::is_signalling;
-use fmt_fields::{exponent_field, is_negative, is_normal, is_normal_field};
+use fmt_fields::attribute::Attribute;
+use fmt_fields::env::{Flagged, Raised};
+use fmt_fields::layout::Format;
+use fmt_fields::refusal::Refusal;
+use fmt_fields::width::Width;
 use round_step::round::finish;
 
-// The parts in a row once more, as in `scalbn64` and `scalbn64_flags`: the compiler lays a body of this size into a single caller only, and a call of it, with
-// its struct in memory, costs more than the operation.
-pub fn scalbn64_in(attribute: Attribute, x: u64, n: i32) -> Raised64
-    ensures { (result.value ≡ scalbn_in b64 (attribute_of attribute) x n) × (flags_of result.flags ≡ scalbn_flags_in b64 (attribute_of attribute) x n) }
+// A normal number: to another one only the exponent field moves, and nothing is rounded.
+#[inline(always)]
+fn normal_scaled(fmt: Format, attribute: Attribute, x: u64, n: i32) -> Flagged<u64, Raised>
+    requires { Pattern (format_of fmt) x × (normal (format_of fmt) x ≡ true) }
+    ensures { Scales (format_of fmt) (attribute_of attribute) x n result.value (flags_of result.flags) }
 {
-    if is_normal(52, 11, x) {
-        let field = moved_field(52, 11, x, n);
-        if is_normal_field(11, field) {
-            return Raised64 {
-                value: with_field(52, 11, x, field),
-                flags: no_flags(),
-            };
-        }
-        let l = locate_moved(52, 11, x, n);
-        let r = finish(52, 11, attribute, is_negative(52, 11, x), l);
-        let flags = r.flags;
-        return Raised64 {
-            value: r.bits,
-            flags,
+    let field = moved_field(fmt, x, n);
+    if fmt.is_normal_field(field) {
+        return Flagged {
+            value: with_field(fmt, x, field),
+            flags: Raised::none(),
         };
     }
-    if exponent_field(52, 11, x) == 0 {
-        let low = locate_subnormal(52, 11, x, n);
-        let r = finish(52, 11, attribute, is_negative(52, 11, x), low);
-        let flags = r.flags;
-        return Raised64 {
-            value: r.bits,
-            flags,
-        };
-    }
-    Raised64 {
-        value: scale_special(52, 11, x),
-        flags: invalid_if(is_signalling(52, 11, x)),
+    finish(fmt, attribute, fmt.is_negative(x), locate_moved(fmt, x, n))
+}
+
+#[inline(always)]
+fn subnormal_scaled(fmt: Format, attribute: Attribute, x: u64, n: i32) -> Flagged<u64, Raised>
+    requires { Pattern (format_of fmt) x × (field (format_of fmt) x ≡ 0) }
+    ensures { Scales (format_of fmt) (attribute_of attribute) x n result.value (flags_of result.flags) }
+{
+    let low = locate_subnormal(fmt, x, n);
+    finish(fmt, attribute, fmt.is_negative(x), low)
+}
+
+// An infinity or a NaN, under every attribute the same.
+#[inline(always)]
+fn special_scaled(fmt: Format, x: u64) -> Flagged<u64, Raised>
+    requires { Pattern (format_of fmt) x × (normal (format_of fmt) x ≡ false) × (field (format_of fmt) x ≢ 0) }
+    ensures { (a : _) (n : ℤ) → Scales (format_of fmt) a x n result.value (flags_of result.flags) }
+{
+    Flagged {
+        value: scale_special(fmt, x),
+        flags: Raised::invalid_if(fmt.is_signalling(x)),
     }
 }
 
-pub fn scalbn32_in(attribute: Attribute, x: u32, n: i32) -> Raised32
-    ensures { (result.value ≡ scalbn_in b32 (attribute_of attribute) x n) × (flags_of result.flags ≡ scalbn_flags_in b32 (attribute_of attribute) x n) }
+// Normal numbers come first.
+#[inline(always)]
+fn scaled(fmt: Format, attribute: Attribute, x: u64, n: i32) -> Flagged<u64, Raised>
+    requires { Pattern (format_of fmt) x }
+    ensures { Scales (format_of fmt) (attribute_of attribute) x n result.value (flags_of result.flags) }
 {
-    let v = x as u64;
-    if is_normal(23, 8, v) {
-        let field = moved_field(23, 8, v, n);
-        if is_normal_field(8, field) {
-            return Raised32 {
-                value: with_field(23, 8, v, field) as u32,
-                flags: no_flags(),
-            };
-        }
-        let l = locate_moved(23, 8, v, n);
-        let r = finish(23, 8, attribute, is_negative(23, 8, v), l);
-        let flags = r.flags;
-        return Raised32 {
-            value: r.bits as u32,
-            flags,
-        };
+    if fmt.is_normal(x) {
+        return normal_scaled(fmt, attribute, x, n);
     }
-    if exponent_field(23, 8, v) == 0 {
-        let low = locate_subnormal(23, 8, v, n);
-        let r = finish(23, 8, attribute, is_negative(23, 8, v), low);
-        let flags = r.flags;
-        return Raised32 {
-            value: r.bits as u32,
-            flags,
-        };
+    if fmt.exponent_field(x) == 0 {
+        return subnormal_scaled(fmt, attribute, x, n);
     }
-    Raised32 {
-        value: scale_special(23, 8, v) as u32,
-        flags: invalid_if(is_signalling(23, 8, v)),
-    }
+    special_scaled(fmt, x)
 }
 
-// An attribute by its number.
-pub fn scalbn64_rounded(number: u32, x: u64, n: i32) -> Answer64
-    ensures { answer64 result ≡ scalbn_rounded b64 number x n }
+#[inline(always)]
+pub fn scalbn_in<W: Width>(attribute: Attribute, x: W, n: i32) -> Flagged<W, Raised>
+    ensures value { W.pattern result.value ≡ scalbn_in W.layout (attribute_of attribute) (W.pattern x) n }
+    ensures flags { flags_of result.flags ≡ scalbn_flags_in W.layout (attribute_of attribute) (W.pattern x) n }
 {
-    if is_attribute(number) {
-        return accept64(scalbn64_in(attribute_of(number), x, n));
-    }
-    refuse64()
+    scaled(W::format(), attribute, x.widen(), n).narrow()
 }
 
-pub fn scalbn32_rounded(number: u32, x: u32, n: i32) -> Answer32
-    ensures { answer32 result ≡ scalbn_rounded b32 number x n }
+// An attribute by its number, as `scalbn_rounded` of the definitions has it, and C.
+pub fn scalbn_rounded<W: Width>(number: u32, x: W, n: i32) -> Result<Flagged<W, Raised>, Refusal>
+    ensures { rounded_of W.pattern flags_of result ≡ scalbn_rounded W.layout number (W.pattern x) n }
 {
-    if is_attribute(number) {
-        return accept32(scalbn32_in(attribute_of(number), x, n));
-    }
-    refuse32()
+    let attribute = Attribute::try_from(number)?;
+    Ok(scalbn_in(attribute, x, n))
 }

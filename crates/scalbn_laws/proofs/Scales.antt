@@ -8,7 +8,6 @@ use lib.Arith.{digits_lt}
 use lib.Pow.{pow-add, pow_pos, pow_mono}
 use lib.Dec.{eqb}
 use lib.IntN.{ℤ, pos, negsuc, ◌+ℤ◌}
-use lib.Signed.{mag}
 use borrow.Author.Tests.{eq-eqb, ne_eqb}
 use Rattle.algebra.proofs.Products.{order, times, times_le}
 use Rattle.algebra.proofs.Quotients.{div_mod}
@@ -29,7 +28,7 @@ use Rattle.ieee.proofs.Raised.{Same, same_rounded, exactly_same, raised_rule}
 use Rattle.ieee.proofs.Signals.{infinite_silent}
 use Rattle.ieee.proofs.Scalbns.{clamp_alike}
 use Rattle.ieee.proofs.ScalbnFlags.{clamp_flags}
-use Rattle.fmt_fields.specs.Width.{format, Fits}
+use Rattle.fmt_fields.specs.Width.{Fits}
 use Rattle.round_step.specs.Outcome.{outcome}
 use Rattle.round_step.proofs.Outcomes.{scaled_outcome, moved_outcome}
 use Rattle.round_laws.specs.Location.{part, high_part, stretched, inside_at}
@@ -42,7 +41,6 @@ use Rattle.fmt_exponents.specs.Field.{above, depth_of}
 use Rattle.scalbn_laws.specs.Normal.{full_of, full_exp, moved_to, scalbn_gives}
 use Rattle.fmt_fields.specs.Normal.{normal}
 use Rattle.fmt_fields.proofs.Normals.{normal_between}
-use Rattle.fmt_exponents.proofs.Exponents.{clamp_mag}
 
 module _ (f : Format) (a : Attribute) (x : ℕ) (n : ℤ) where
   by_kind : {k : Kind} → kind f x ≡ k → scalbn_gives f a x n ≡ (scalbn_by f a x n k, scalbn_flags_by f a x n k)
@@ -203,6 +201,3 @@ module _ (f : Format) (x : ℕ) (h : Pattern f x) where
 module _ {p e : ℕ} (w : Fits p e) where
   pub reach_in_word : 2 ^ e + p < 2 ^ 17
   reach_in_word = omega (arith, fields_small w, w.word)
-
-  pub near_small : (n : ℤ) {m : ℤ} → m ≡ clamp (2 ^ e + p) n → mag m < 2 ^ 18
-  near_small n h = rw h (omega (arith, clamp_mag (2 ^ e + p) n, reach_in_word))

@@ -1,5 +1,5 @@
 -- The classes by the pattern: one comparison finds all five, and one the four of which no root is computed. Assumes nothing.
-use Rattle.std.proofs.Common.{◌≡◌, ℕ, ◌+◌, ◌-◌, ◌/◌, ◌%◌, ◌^◌, ◌<◌, ◌≤◌, Bool, true, false, ◌&&◌, ◌||◌, ltb, leb, sym, refl, ap, ◌∙◌, mod-eq_of_lt, arith, pow_pos, pow-add, ltb-false, le-ltb, lt-ltb, eq-eqb, ne_eqb, le-leb}
+use Rattle.std.proofs.Common.{◌≡◌, ℕ, subst, ◌+◌, ◌-◌, ◌/◌, ◌%◌, ◌^◌, ◌<◌, ◌≤◌, Bool, true, false, ◌&&◌, ◌||◌, ltb, leb, sym, refl, ap, ◌∙◌, mod-eq_of_lt, arith, pow_pos, pow-add, ltb-false, le-ltb, lt-ltb, eq-eqb, ne_eqb, le-leb}
 use mathlib.Core.Bool.{or-true}
 use borrow.Author.Tests.{lt-leb, eqb-false}
 use Rattle.algebra.proofs.Products.{order, times, mul_lt_cancel}
@@ -157,3 +157,11 @@ module _ (f : Format) (x : ℕ) where
       (λ z. absurd (let e : x ≡ 0 = omega arith in let m : magnitude f x ≡ 0 = ap (λ k. k % top f) e ∙ mod-eq_of_lt (pow_pos (f.frac + f.expo)) in omega arith))
       (λ z. absurd (let q = number_rooted (omega arith) (omega (arith, n)) in let r : ◌≡◌ {A = ℕ} 0 1 = cc in omega arith)))
       (λ l. l)
+
+-- ---- by a format k that is the layout f of a word
+module _ {k f : Format} (e : k ≡ f) (x : ℕ) where
+  pub rooted_at : rootless k x ≡ false → Above f x
+  rooted_at h = subst (λ f. Above f x) e (rooted_above k x h)
+
+  pub stays_at : set_aside k x ≡ false → Above f x × (0 < field f x)
+  stays_at h = subst (λ f. Above f x × (0 < field f x)) e (rooted_above k x (stays_rooted k x h), stays_normal k x h)

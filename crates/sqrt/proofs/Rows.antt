@@ -1,12 +1,12 @@
 -- The rows of sqrt by the pattern, as the code distinguishes them, under every attribute; every answer is a pattern. Assumes nothing.
-use Rattle.std.proofs.Common.{◌≡◌, ℕ, zero, suc, ◌+◌, ◌-◌, ◌<◌, ◌≤◌, Bool, true, false, ltb, sym, refl, ap, ◌∙◌, mod-eq_of_lt, arith, pow_pos, le-ltb, lt-ltb, le-leb}
+use Rattle.std.proofs.Common.{◌≡◌, ℕ, subst, zero, suc, ◌+◌, ◌-◌, ◌<◌, ◌≤◌, Bool, true, false, ltb, sym, refl, ap, ◌∙◌, mod-eq_of_lt, arith, pow_pos, le-ltb, lt-ltb, le-leb}
 use borrow.Author.Tests.{lt-leb}
 use Rattle.algebra.proofs.Products.{order}
 use Rattle.algebra.proofs.Quotients.{mod_is}
 use Rattle.ieee.specs.Format.{Format, Fair, top, inf, canonical, units}
 use Rattle.ieee.specs.Pattern.{Pattern, magnitude, minus, Kind, nan, infinite, finite, kind}
-use Rattle.ieee.specs.Round.{Attribute}
-use Rattle.ieee.specs.Sqrt.{sqrt_by, sqrt_in, sqrt_flags_in, root_of}
+use Rattle.ieee.specs.Round.{Attribute, ties_to_even}
+use Rattle.ieee.specs.Sqrt.{sqrt_by, sqrt_in, sqrt_of, sqrt_flags_in, root_of}
 use Rattle.ieee.specs.SqrtRows.{SqrtRows}
 use Rattle.ieee.specs.Flags.{none, only_invalid, nan_flags, signals}
 use Rattle.ieee.specs.FlagRows.{SqrtFlagRows}
@@ -106,3 +106,13 @@ sqrt_pattern {p} {e} w a x h = go (minus (format p e) x) (kind (format p e) x)
     go s (finite zero) = answer_pattern (format p e) w.fair a s (root_of (format p e) 0)
     go false (finite (suc u)) = answer_pattern (format p e) w.fair a false (root_of (format p e) (suc u))
     go true (finite (suc u)) = canonical_pattern (format p e)
+
+pub whole : {p e : ℕ} → Fits p e → (x : ℕ) → Pattern (format p e) x → {r : ℕ} → r ≡ sqrt_of (format p e) x → (r ≡ sqrt_of (format p e) x) × Pattern (format p e) r
+unfolding sqrt_of
+whole {p} {e} w x h i = (i, subst (Pattern (format p e)) (sym i) (sqrt_pattern w ties_to_even x h))
+
+-- an answer by a format that is the layout f of a word
+pub answer_held : {p e : ℕ} → Fits p e → {f : Format} → format p e ≡ f → {x y r : ℕ} → x ≡ y → Pattern f y → r ≡ sqrt_in (format p e) ties_to_even x → Pattern f r
+answer_held {p} {e} w {f} is {x} {y} {r} i h j =
+    let k = subst (λ f. Pattern f x) (sym is) (subst (Pattern f) (sym i) h) in
+    subst (λ f. Pattern f r) is (subst (Pattern (format p e)) (sym j) (sqrt_pattern w ties_to_even x k))

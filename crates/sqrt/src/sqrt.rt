@@ -1,193 +1,141 @@
 // sqrt: the square root, rounded once.
 ghost use Rattle.std.specs.Prelude.{◌≡◌, true};
-ghost use Rattle.ieee.specs.Format.{b64, b32};
 ghost use Rattle.ieee.specs.Pattern.{Pattern};
 ghost use Rattle.ieee.specs.Sqrt.{sqrt_in, sqrt_of, sqrt_flags_in, sqrt_flags};
 ghost use Rattle.ieee.specs.Rounded.{sqrt_rounded};
-ghost use Rattle.fmt_fields.specs.Width.{format, Fits};
+ghost use Rattle.fmt_fields.specs.Layout.{format_of};
 ghost use Rattle.fmt_fields.specs.Raised.{attribute_of, flags_of};
-ghost use Rattle.fmt_fields.specs.Numbered.{answer64, answer32};
+ghost use Rattle.fmt_fields.specs.Numbered.{rounded_of};
 ghost use Rattle.sqrt.specs.Classes.{rootless, set_aside, AlwaysRoot, AlwaysFlags};
 
-use fmt_fields::env::{Attribute, Raised, Raised32, Raised64, invalid_if};
-use fmt_fields::numbered::{
-    Answer32, Answer64, accept32, accept64, attribute_of, is_attribute, refuse32, refuse64,
-};
-use fmt_fields::pattern::{infinity, is_signalling, magnitude_of, nan};
-use sqrt_number::flags::{
-    sqrt_number32_flags, sqrt_number32_in, sqrt_number64_flags, sqrt_number64_in,
-};
-use sqrt_number::{sqrt_by_digits, sqrt_normal32, sqrt_normal64, sqrt_number32, sqrt_number64};
+use fmt_fields::attribute::Attribute;
+use fmt_fields::env::{Flagged, Raised};
+use fmt_fields::layout::Format;
+use fmt_fields::refusal::Refusal;
+use fmt_fields::width::Width;
+use sqrt_number::flags::sqrt_number_in;
+use sqrt_number::rooted::Rooted;
+use sqrt_number::{sqrt_by_digits, sqrt_normal, sqrt_number};
 use word_bits::pow;
 
 // Whether x is a zero, subnormal, infinite, a NaN or negative. All other patterns lie from the smallest normal number up to infinity. With the smallest
 // subtracted, those below it wrap to words past infinity, where the NaNs and the negative operands are.
-fn set_aside(frac: u32, expo: u32, x: u64) -> bool
-    requires { Fits frac expo }
-    ensures { result ≡ set_aside (format frac expo) x }
+fn set_aside(fmt: Format, x: u64) -> bool
+    ensures { result ≡ set_aside (format_of fmt) x }
 {
-    let least = pow(frac);
-    let inf = infinity(frac, expo);
-    std::num::wrapping_sub_u64(x, least) >= inf - least
+    let least = pow(fmt.frac);
+    let inf = fmt.infinity();
+    x.wrapping_sub(least) >= inf - least
 }
 
 // Whether no root is computed: the same without the subnormal numbers, by the pattern less one.
-fn has_no_root(frac: u32, expo: u32, x: u64) -> bool
-    requires { Fits frac expo }
-    ensures { result ≡ rootless (format frac expo) x }
+fn has_no_root(fmt: Format, x: u64) -> bool
+    ensures { result ≡ rootless (format_of fmt) x }
 {
-    let inf = infinity(frac, expo);
-    std::num::wrapping_sub_u64(x, 1) >= inf - 1
+    let inf = fmt.infinity();
+    x.wrapping_sub(1) >= inf - 1
 }
 
 // The answer for each of those, under every attribute: zeros and +infinity are their own roots, the others are NaNs or negative.
-fn sqrt_special(frac: u32, expo: u32, x: u64) -> u64
-    requires { Fits frac expo × Pattern (format frac expo) x × (rootless (format frac expo) x ≡ true) }
-    ensures { AlwaysRoot (format frac expo) x result }
+fn sqrt_special(fmt: Format, x: u64) -> u64
+    requires { Pattern (format_of fmt) x × (rootless (format_of fmt) x ≡ true) }
+    ensures { AlwaysRoot (format_of fmt) x result }
 {
-    let top = pow(frac + expo);
-    let inf = infinity(frac, expo);
+    let top = pow(fmt.frac + fmt.expo);
+    let inf = fmt.infinity();
     if x % top == 0 {
         return x;
     }
     if x == inf {
         return x;
     }
-    nan(frac, expo)
+    fmt.nan()
 }
 
 // The root of any pattern of any format, by digits.
-pub fn sqrt_pattern(frac: u32, expo: u32, x: u64) -> u64
-    requires { Fits frac expo × Pattern (format frac expo) x }
-    ensures { (result ≡ sqrt_of (format frac expo) x) × Pattern (format frac expo) result }
+pub fn sqrt_pattern(fmt: Format, x: u64) -> u64
+    requires { Pattern (format_of fmt) x }
+    ensures { (result ≡ sqrt_of (format_of fmt) x) × Pattern (format_of fmt) result }
 {
-    if has_no_root(frac, expo, x) {
-        return sqrt_special(frac, expo, x);
+    if has_no_root(fmt, x) {
+        return sqrt_special(fmt, x);
     }
-    sqrt_by_digits(frac, expo, x)
+    sqrt_by_digits(fmt, x)
 }
 
 // The flags where no root is computed: invalid for signalling NaNs, and for what is below zero: the patterns past -0 that are no NaNs.
-fn special_flags(frac: u32, expo: u32, x: u64) -> Raised
-    requires { Fits frac expo × Pattern (format frac expo) x × (rootless (format frac expo) x ≡ true) }
-    ensures { AlwaysFlags (format frac expo) x (flags_of result) }
+fn special_flags(fmt: Format, x: u64) -> Raised
+    requires { Pattern (format_of fmt) x × (rootless (format_of fmt) x ≡ true) }
+    ensures { AlwaysFlags (format_of fmt) x (flags_of result) }
 {
-    if magnitude_of(frac, expo, x) > infinity(frac, expo) {
-        return invalid_if(is_signalling(frac, expo, x));
+    if fmt.magnitude_of(x) > fmt.infinity() {
+        return Raised::invalid_if(fmt.is_signalling(x));
     }
-    invalid_if(x > pow(frac + expo))
+    Raised::invalid_if(x > pow(fmt.frac + fmt.expo))
 }
 
-fn special64(x: u64) -> Raised64
-    requires { rootless b64 x ≡ true }
-    ensures { AlwaysRoot b64 x result.value × AlwaysFlags b64 x (flags_of result.flags) }
+// The answer where no root is computed, with its flags, under every attribute.
+fn special<W: Width>(x: W) -> Flagged<W, Raised>
+    requires { rootless W.layout (W.pattern x) ≡ true }
+    ensures value { AlwaysRoot W.layout (W.pattern x) (W.pattern result.value) }
+    ensures flags { AlwaysFlags W.layout (W.pattern x) (flags_of result.flags) }
 {
-    Raised64 {
-        value: sqrt_special(52, 11, x),
-        flags: special_flags(52, 11, x),
-    }
-}
-
-fn special32(x: u32) -> Raised32
-    requires { rootless b32 x ≡ true }
-    ensures { AlwaysRoot b32 x result.value × AlwaysFlags b32 x (flags_of result.flags) }
-{
-    Raised32 {
-        value: sqrt_special(23, 8, x as u64) as u32,
-        flags: special_flags(23, 8, x as u64),
+    let fmt = W::format();
+    let pattern = x.widen();
+    Flagged {
+        value: W::narrow(sqrt_special(fmt, pattern)),
+        flags: special_flags(fmt, pattern),
     }
 }
 
 // The operands set aside: by the table where they have a root.
-fn sqrt_aside64(x: u64) -> u64
-    ensures { result ≡ sqrt_of b64 x }
+fn sqrt_aside<W: Rooted>(x: W) -> W
+    ensures { W.pattern result ≡ sqrt_of W.layout (W.pattern x) }
 {
-    if has_no_root(52, 11, x) {
-        return sqrt_special(52, 11, x);
+    let pattern = x.widen();
+    if has_no_root(W::format(), pattern) {
+        return special(x).value;
     }
-    sqrt_number64(x)
+    sqrt_number(pattern)
 }
 
-fn sqrt_aside32(x: u32) -> u32
-    ensures { result ≡ sqrt_of b32 x }
+// Not by way of the flags: one comparison suffices for most operands.
+#[inline(always)]
+pub fn sqrt<W: Rooted>(x: W) -> W
+    ensures { W.pattern result ≡ sqrt_of W.layout (W.pattern x) }
 {
-    if has_no_root(23, 8, x as u64) {
-        return sqrt_special(23, 8, x as u64) as u32;
+    let pattern = x.widen();
+    if set_aside(W::format(), pattern) {
+        return sqrt_aside(x);
     }
-    sqrt_number32(x as u64)
-}
-
-// One comparison suffices for most operands.
-pub fn sqrt64(x: u64) -> u64
-    ensures { result ≡ sqrt_of b64 x }
-{
-    if set_aside(52, 11, x) {
-        return sqrt_aside64(x);
-    }
-    sqrt_normal64(x)
-}
-
-pub fn sqrt32(x: u32) -> u32
-    ensures { result ≡ sqrt_of b32 x }
-{
-    if set_aside(23, 8, x as u64) {
-        return sqrt_aside32(x);
-    }
-    sqrt_normal32(x as u64)
-}
-
-pub fn sqrt64_flags(x: u64) -> Raised64
-    ensures { (result.value ≡ sqrt_of b64 x) × (flags_of result.flags ≡ sqrt_flags b64 x) }
-{
-    if has_no_root(52, 11, x) {
-        return special64(x);
-    }
-    sqrt_number64_flags(x)
-}
-
-pub fn sqrt32_flags(x: u32) -> Raised32
-    ensures { (result.value ≡ sqrt_of b32 x) × (flags_of result.flags ≡ sqrt_flags b32 x) }
-{
-    if has_no_root(23, 8, x as u64) {
-        return special32(x);
-    }
-    sqrt_number32_flags(x as u64)
+    sqrt_normal(pattern)
 }
 
 // Under an attribute.
-pub fn sqrt64_in(attribute: Attribute, x: u64) -> Raised64
-    ensures { (result.value ≡ sqrt_in b64 (attribute_of attribute) x) × (flags_of result.flags ≡ sqrt_flags_in b64 (attribute_of attribute) x) }
+#[inline(always)]
+pub fn sqrt_in<W: Rooted>(attribute: Attribute, x: W) -> Flagged<W, Raised>
+    ensures value { W.pattern result.value ≡ sqrt_in W.layout (attribute_of attribute) (W.pattern x) }
+    ensures flags { flags_of result.flags ≡ sqrt_flags_in W.layout (attribute_of attribute) (W.pattern x) }
 {
-    if has_no_root(52, 11, x) {
-        return special64(x);
+    let pattern = x.widen();
+    if has_no_root(W::format(), pattern) {
+        return special(x);
     }
-    sqrt_number64_in(attribute, x)
+    sqrt_number_in(attribute, pattern)
 }
 
-pub fn sqrt32_in(attribute: Attribute, x: u32) -> Raised32
-    ensures { (result.value ≡ sqrt_in b32 (attribute_of attribute) x) × (flags_of result.flags ≡ sqrt_flags_in b32 (attribute_of attribute) x) }
+#[inline(always)]
+pub fn sqrt_flags<W: Rooted>(x: W) -> Flagged<W, Raised>
+    ensures value { W.pattern result.value ≡ sqrt_of W.layout (W.pattern x) }
+    ensures flags { flags_of result.flags ≡ sqrt_flags W.layout (W.pattern x) }
 {
-    if has_no_root(23, 8, x as u64) {
-        return special32(x);
-    }
-    sqrt_number32_in(attribute, x as u64)
+    sqrt_in(Attribute::Even, x)
 }
 
-// Under the attribute of a number, or a refusal.
-pub fn sqrt64_rounded(number: u32, x: u64) -> Answer64
-    ensures { answer64 result ≡ sqrt_rounded b64 number x }
+// Under the attribute of a number, as `sqrt_rounded` of the definitions has it, and C.
+pub fn sqrt_rounded<W: Rooted>(number: u32, x: W) -> Result<Flagged<W, Raised>, Refusal>
+    ensures { rounded_of W.pattern flags_of result ≡ sqrt_rounded W.layout number (W.pattern x) }
 {
-    if is_attribute(number) {
-        return accept64(sqrt64_in(attribute_of(number), x));
-    }
-    refuse64()
-}
-
-pub fn sqrt32_rounded(number: u32, x: u32) -> Answer32
-    ensures { answer32 result ≡ sqrt_rounded b32 number x }
-{
-    if is_attribute(number) {
-        return accept32(sqrt32_in(attribute_of(number), x));
-    }
-    refuse32()
+    let attribute = Attribute::try_from(number)?;
+    Ok(sqrt_in(attribute, x))
 }

@@ -1,5 +1,5 @@
 -- The next pair of bits: the number is four times the one before, plus the pair, and the rest of the word moves up. Assumes nothing.
-use Prim.Native.Nat.{ℕ, suc, ◌+◌, ◌*◌, ◌/◌, ◌%◌, ◌^◌, ◌≤◌, ◌<◌}
+use Prim.Native.Nat.{ℕ, ◌+◌, ◌*◌, ◌/◌, ◌%◌, ◌^◌, ◌≤◌, ◌<◌}
 use mathlib.Core.Path.{◌≡◌, sym, ap, ◌∙◌}
 use native.Mathlib.Omega.{arith}
 use lib.Dec.{eqb}
@@ -21,13 +21,13 @@ module _ (m k : ℕ) where
   abbrev moved : ℕ
   moved = m * 2 ^ (2 * k)
 
-  one_pair_more : m * 2 ^ (2 * suc k) ≡ moved * 4
-  one_pair_more = ap (λ i. m * 2 ^ i) (let e : 2 * suc k ≡ 2 * k + 2 = omega arith in e) ∙ omega (arith, times m (pow-add 2 (2 * k) 2))
+  one_pair_more : m * 2 ^ (2 * (k + 1)) ≡ moved * 4
+  one_pair_more = ap (λ i. m * 2 ^ i) (let e : 2 * (k + 1) ≡ 2 * k + 2 = omega arith in e) ∙ omega (arith, times m (pow-add 2 (2 * k) 2))
 
-  pub next_pair : (rest : ℕ) → rest ≡ moved % 2 ^ 64 → pairs m (suc k) ≡ 4 * pairs m k + rest / 2 ^ 62
+  pub next_pair : (rest : ℕ) → rest ≡ moved % 2 ^ 64 → pairs m (k + 1) ≡ 4 * pairs m k + rest / 2 ^ 62
   next_pair rest e = ap (λ n. n / 2 ^ 64) one_pair_more ∙ omega arith
 
-  pub next_rest : (rest : ℕ) → rest ≡ moved % 2 ^ 64 → rest * 2 ^ 2 % 2 ^ 64 ≡ m * 2 ^ (2 * suc k) % 2 ^ 64
+  pub next_rest : (rest : ℕ) → rest ≡ moved % 2 ^ 64 → rest * 4 % 2 ^ 64 ≡ m * 2 ^ (2 * (k + 1)) % 2 ^ 64
   next_rest rest e = omega arith ∙ sym (ap (λ n. n % 2 ^ 64) one_pair_more)
 
   -- a root has a digit for each pair

@@ -5,6 +5,7 @@ ghost use Rattle.std.specs.Prelude.{◌≡◌, ◌+◌, ◌*◌, ◌≤◌, ◌<
 ghost use Rattle.sqrt_digits.specs.Floor.{FloorRoot, pairs};
 
 // A root rounded down, and whether its square is the number. A contract by `FloorRoot` leaves one root: `floor_unique` (proofs/Digits.antt).
+// There is a root in either case, and the caller's next step takes both alike: a variant for each case would hold the same word twice.
 #[derive(Clone, Copy)]
 pub struct RootFloor {
     pub root: u64,
@@ -44,13 +45,11 @@ pub fn floor_root(m: u64, digits: u32) -> RootFloor
     let mut root: u64 = 0;
     let mut rem: u64 = 0;
     let mut rest = m;
-    let mut left = digits;
-    while left > 0 {
+    for _ in 0..digits {
         let next = next_digit(root, rem * 4 + (rest >> 62));
         root = next.root;
         rem = next.rem;
-        rest = rest << 2;
-        left = left - 1;
+        rest <<= 2;
     }
     RootFloor {
         root,

@@ -1,7 +1,9 @@
 pub mod Halves
 pub mod Joins
+pub mod Layouts
+pub mod Lifts
 pub mod Only
+pub mod RootFlags
 pub mod Rootings
 pub mod Splits
 pub mod Tables
-pub mod RootFlags

@@ -13,10 +13,10 @@ use Rattle.algebra.proofs.Products.{times, times_le, mul_eq_cancel}
 use Rattle.algebra.proofs.Powers.{pow_diff}
 use Rattle.ieee.specs.Format.{Format, top, inf, units, low}
 use Rattle.ieee.specs.Pattern.{magnitude, minus, finite, kind, value}
-use Rattle.ieee.specs.Round.{even, Attribute, ties_to_even, toward_zero, way_of}
+use Rattle.ieee.specs.Round.{Attribute, toward_zero, way_of}
 use Rattle.ieee.specs.Flags.{Flags, only_inexact}
 use Rattle.ieee.specs.FlagsRule.{Equals, Exactly, FlagsRule}
-use Rattle.ieee.specs.Sqrt.{exact_sqrt, sqrt_in, sqrt_of, sqrt_flags_in, sqrt_flags}
+use Rattle.ieee.specs.Sqrt.{exact_sqrt, sqrt_in, sqrt_flags_in}
 use Rattle.ieee.proofs.Patterns.{inf_below_top, kind_finite, value_with, value_finite}
 use Rattle.ieee.proofs.Raised.{inexact_alike}
 use Rattle.ieee.proofs.Signs.{abs_signed}
@@ -134,7 +134,3 @@ module _ {p e : ℕ} (w : Fits p e) (x : ℕ) (a : Above (format p e) x) (sig up
   -- ---- the value y with the flags F, as they are computed
   pub root_row : (g : Attribute) {y : ℕ} {F : Flags} → (y ≡ rounded_by (way_of g false) p root rem up) × (F ≡ only_inexact (not (exact_by root rem))) → (y ≡ sqrt_in f g x) × (F ≡ sqrt_flags_in f g x)
   root_row g (i, j) = (i ∙ residual_answers w x a sig up h l root rem c g, j ∙ root_flags g)
-
-  pub nearest_row : {y : ℕ} {F : Flags} → (y ≡ rounded_by even p root rem up) × (F ≡ only_inexact (not (exact_by root rem))) → (y ≡ sqrt_of f x) × (F ≡ sqrt_flags f x)
-  unfolding sqrt_of sqrt_flags
-  nearest_row i = root_row ties_to_even i

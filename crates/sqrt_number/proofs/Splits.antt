@@ -37,11 +37,11 @@ leads {p} {e} w x sig some i =
     record { least = omega (arith, n.least); most = omega (arith, n.most); few = fraction_few w }
 
 -- the parts, from an unpacked number and its exponent lifted
-module _ (f : Format) (x : ℕ) {sig up : ℕ} {exp : ℤ} (u : pos up ≡ exp +ℤ pos (lift f)) where
-  pub parts : sig ≡ sig_of f x → exp ≡ exp_of f x → Parts f x sig up
-  parts s e = record { sig_is = s; up_is = u ∙ ap (λ z. z +ℤ pos (lift f)) e }
+module _ (f : Format) (x : ℕ) {sig up unpacked : ℕ} {exp : ℤ} (k : sig ≡ unpacked) (u : pos up ≡ exp +ℤ pos (lift f)) where
+  pub parts : unpacked ≡ sig_of f x → exp ≡ exp_of f x → Parts f x sig up
+  parts s e = record { sig_is = k ∙ s; up_is = u ∙ ap (λ z. z +ℤ pos (lift f)) e }
 
-  pub normal_parts : 0 < magnitude f x → 0 < field f x → sig ≡ significand f x → exp ≡ exponent f x → Parts f x sig up
+  pub normal_parts : 0 < magnitude f x → 0 < field f x → unpacked ≡ significand f x → exp ≡ exponent f x → Parts f x sig up
   normal_parts some normal s e = let (i, j) = normal_stays f x some normal in parts (s ∙ i) (e ∙ j)
 
 module _ (p sig up : ℕ) (l : Leads p sig) where
@@ -134,9 +134,6 @@ module _ (p sig up : ℕ) (l : Leads p sig) where
     pub step_serves : Serves ((seven - 64 * odd) % 128) (word_of p sig up / 2 ^ 32)
     step_serves = served_at odd (omega arith)
 
--- at 32 bits the lower half of the word is zero
-pub half_empty : (sig odd : ℕ) → sig * 2 ^ (62 - 23 + odd) % 2 ^ 32 ≡ 0
-half_empty sig odd = mod_is _ (2 ^ 32) (sig * 2 ^ (7 + odd)) 0 (omega arith) (omega (arith, times sig (ap (λ j. 2 ^ j) i ∙ pow-add 2 (7 + odd) 32)))
-  where
-    i : 62 - 23 + odd ≡ 7 + odd + 32
-    i = omega arith
+  -- the significand has nothing below its last bit
+  pub word_empty : word_of p sig up % 2 ^ (62 - p) ≡ 0
+  word_empty = mod_is _ (2 ^ (62 - p)) (sig * 2 ^ odd) 0 (pow_pos (62 - p)) (omega (arith, times sig (pow-add 2 (62 - p) odd)))

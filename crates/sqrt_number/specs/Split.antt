@@ -1,7 +1,8 @@
 -- A positive number split for its root: an exponent to be halved, and a radicand. Assumes nothing.
-use Rattle.std.specs.Prelude.{ℕ, ◌+◌, ◌-◌, ◌*◌, ◌/◌, ◌%◌, ◌^◌, ◌≤◌, ◌<◌, ◌≡◌, Bool, true, false, cond, ℤ, pos, ◌+ℤ◌, ◌-ℤ◌}
+use Rattle.std.specs.Prelude.{ℕ, ◌+◌, ◌-◌, ◌*◌, ◌/◌, ◌%◌, ◌^◌, ◌≤◌, ◌<◌, ◌≡◌, Bool, true, false, not, cond, ℤ, pos, ◌+ℤ◌, ◌-ℤ◌}
 use Rattle.ieee.specs.Format.{Format, inf}
 use Rattle.ieee.specs.Pattern.{magnitude, minus}
+use Rattle.ieee.specs.Flags.{Flags, only_inexact}
 use Rattle.ieee.specs.Round.{Way, even, away, shorter, longer}
 use Rattle.fmt_decode.specs.Significand.{sig_of, exp_of}
 use Rattle.sqrt_digits.specs.Floor.{pairs}
@@ -73,7 +74,12 @@ rises_by longer = true
 abbrev pub rounded_by : Way → ℕ → ℕ → ℕ → ℕ → ℕ
 rounded_by w p root rem up = (up / 2 - 2) * 2 ^ p + whole_by w root rem
 
--- what the table requires of the parts
+-- what the table requires of a format: a step has six bits, and the fraction leaves room below the bias
+pub record Tabled (f : Format) : Type 0 where
+  pub six : 6 ≤ f.frac
+  pub below : f.frac + 2 ≤ 2 ^ (f.expo - 1)
+
+-- and of the parts
 pub record Ready (f : Format) (sig up : ℕ) : Type 0 where
   pub leads : Leads f.frac sig
   pub from : 4 ≤ up
@@ -91,3 +97,8 @@ pub record RoundedRoot (w : Way) (p sig up r : ℕ) : Type 0 where
   pub rem : ℕ
   pub residual : Residual (pairs (word_of p sig up) (p + 1)) root rem
   pub is : r ≡ rounded_by w p root rem up
+
+-- the same with its flags F: inexact, or none where the root is exact
+pub record RaisedRoot (w : Way) (p sig up r : ℕ) (F : Flags) : Type 0 where
+  pub rounded : RoundedRoot w p sig up r
+  pub raises : F ≡ only_inexact (not (exact_by rounded.root rounded.rem))

@@ -1,4 +1,3 @@
-pub mod Arms
 pub mod Rule
 pub mod Steps
 pub mod Sweeps

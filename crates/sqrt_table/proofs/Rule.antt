@@ -4,7 +4,7 @@ use lib.Ieee.Fits.{and_l, and_r}
 use Rattle.algebra.proofs.Products.{times_le}
 use Rattle.sqrt_laws.specs.Near.{Near}
 use Rattle.sqrt_table.specs.Table.{entry_of, row_of, first, past, Serves}
-use Rattle.sqrt_table.specs.Guess.{Starts}
+use Rattle.sqrt_table.specs.Guess.{Starts, Begins}
 use Rattle.sqrt_table.proofs.Sweeps.{every_at}
 
 -- ---- the entries are those of the rows' words, and have 16 bits
@@ -47,6 +47,9 @@ served i m s = near (entry_of i) (between i m s)
 -- the guess read there is near, and half a word
 pub start_near : (m r : ℕ) → Starts m r → Near (2 ^ 30) m r 8404992 × (r < 2 ^ 32)
 start_near m r s = (rw s.is (served s.step m s.serves), omega (arith, s.is, entry_small s.step s.serves.at))
+
+pub begins : (m r : ℕ) → Starts m r → Begins m r
+begins m r s = let (n, l) = start_near m r s in record { near = n; small = l }
 
 -- ---- the step by the first seven bits of m, of which the first is 1, and by whether m is 2 or more
 pub serves_high : (j m : ℕ) → 64 ≤ j → j < 128 → j * 2 ^ 25 ≤ m → m ≤ (j + 1) * 2 ^ 25 → Serves (j - 64) m

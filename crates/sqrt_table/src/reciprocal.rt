@@ -43,7 +43,7 @@ fn row(j: u64) -> u64
     }
 }
 
-// Entry i, extracted from its row.
+// Entry i, extracted from its row. The bound of i is one of the table's places, as of any index.
 fn packed_entry(i: u64) -> u64
     requires { i < 128 }
     ensures { result ≡ entry_of i }

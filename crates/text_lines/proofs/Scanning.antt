@@ -1,63 +1,33 @@
 -- Laws of scanning a line: the bytes at an offset, the first offset of some bytes, an empty part, and blanks. Assumes nothing.
 use mathlib.Core.Path.{◌≡◌, refl, sym, ap, ◌∙◌}
-use mathlib.Core.Bool.{Bool, true, false, cond, ◌&&◌, and-true, and-false, true≢false}
+use mathlib.Core.Bool.{Bool, true, false, not, cond, ◌&&◌, true≢false}
 use mathlib.Core.List.{List, [], ◌∷◌, ◌++◌}
 use Prim.Native.Nat.{ℕ, suc, ◌+◌, ◌-◌, ◌≤◌, ◌<◌}
 use native.Mathlib.Numerals.{add-one}
 use native.Mathlib.Omega.{arith}
-use lib.Dec.{eqb, leb}
+use lib.Dec.{eqb}
 use lib.ListN.{length, drop, take, get_or, length-drop, drop_of_length-le}
-use lib.Seq.{drop-cons}
-use borrow.Author.Tests.{eq-eqb, ne_eqb, eqb-true, le-leb, lt-leb}
-use Rattle.text_lines.specs.Offsets.{starts, ahead, offset_of, arrow, part_of, holds, blank_too_many}
+use Rattle.std.proofs.lemmas.Bool.Decides.{nat_tests}
+use Rattle.std.specs.Prelude.{Some, None}
+use Rattle.std.specs.List.{starts_with, position, position_or_len}
+use lib.Seq.{drop-cons, take_all}
+use borrow.Author.Tests.{eq-eqb, ne_eqb, eqb-true, le-leb}
+use Rattle.text_lines.specs.Offsets.{starts, ahead, offset_of, part_of, holds, blank_too_many}
 
 -- ---- the bytes at an offset
 
-starts_short : (p s : List ℕ) → length s < length p → starts p s ≡ false
+turned : (a c : ℕ) → eqb a c ≡ eqb c a
+turned a c = grind (arith, nat_tests)
+
+-- a slice begins with p
+starts_slice : (s p : List ℕ) → starts_with eqb s p ≡ starts p s
 unfolding starts
-starts_short [] s h = absurd (omega arith)
-starts_short (a ∷ p) [] h = refl
-starts_short (a ∷ p) (c ∷ s) h = rw (starts_short p s (omega arith)) (and-false (eqb c a))
+starts_slice s [] = refl
+starts_slice [] (a ∷ p) = refl
+starts_slice (c ∷ s) (a ∷ p) = rw (turned a c) (ap (λ (t : Bool). eqb c a && t) (starts_slice s p))
 
-starts_here : (a : ℕ) (p s : List ℕ) (i : ℕ) → i < length s → starts (a ∷ p) (drop i s) ≡ (eqb (get_or s i 0) a && starts p (drop (i + 1) s))
-unfolding starts
-starts_here a p s i h = rw (add-one, drop-cons s i 0 h)
-
-module _ (b : ℕ) (s : List ℕ) (i : ℕ) (more : i < length s) where
-  pub byte_is : get_or s i 0 ≡ b → starts (b ∷ []) (drop i s) ≡ true
-  unfolding starts
-  byte_is e = rw (starts_here b [] s i more) (rw (eq-eqb _ _ e))
-
-  pub byte_is_not : (get_or s i 0 ≡ b → ⊥) → starts (b ∷ []) (drop i s) ≡ false
-  byte_is_not e = rw (starts_here b [] s i more) (rw (ne_eqb _ _ e))
-
-module _ (s : List ℕ) (i : ℕ) where
-  pub no_room : length s < i + 4 → false ≡ starts arrow (drop i s)
-  no_room h = sym (starts_short arrow (drop i s) (omega (arith, length-drop i s)))
-
-  arrow_is : i + 4 ≤ length s
-      → starts arrow (drop i s) ≡ (eqb (get_or s i 0) 32 && (eqb (get_or s (i + 1) 0) 45 && (eqb (get_or s (i + 2) 0) 62 && eqb (get_or s (i + 3) 0) 32)))
-  unfolding starts
-  arrow_is h =
-      let two : i + 1 + 1 ≡ i + 2 = omega arith in
-      let three : i + 2 + 1 ≡ i + 3 = omega arith in
-      starts_here 32 (45 ∷ 62 ∷ 32 ∷ []) s i (omega arith)
-      ∙ ap (λ (t : Bool). eqb (get_or s i 0) 32 && t)
-      (rw (starts_here 45 (62 ∷ 32 ∷ []) s (i + 1) (omega arith), two, starts_here 62 (32 ∷ []) s (i + 2) (omega arith), three, starts_here 32 [] s (i + 3) (omega arith), and-true))
-
-  -- a wrong byte suffices; where the first three are right, the last one decides
-  module _ (room : i + 4 ≤ length s) where
-    pub not_first : (get_or s i 0 ≡ 32 → ⊥) → false ≡ starts arrow (drop i s)
-    not_first e = rw (arrow_is room, ne_eqb _ 32 e)
-
-    pub not_second : (get_or s (i + 1) 0 ≡ 45 → ⊥) → false ≡ starts arrow (drop i s)
-    not_second e = rw (arrow_is room, ne_eqb _ 45 e, and-false)
-
-    pub not_third : (get_or s (i + 2) 0 ≡ 62 → ⊥) → false ≡ starts arrow (drop i s)
-    not_third e = rw (arrow_is room, ne_eqb _ 62 e) (simp and-false)
-
-    pub last_tells : get_or s i 0 ≡ 32 → get_or s (i + 1) 0 ≡ 45 → get_or s (i + 2) 0 ≡ 62 → eqb (get_or s (i + 3) 0) 32 ≡ starts arrow (drop i s)
-    last_tells x y z = rw (arrow_is room, eq-eqb _ 32 x, eq-eqb _ 45 y, eq-eqb _ 62 z)
+pub starts_rest : (p s : List ℕ) (i : ℕ) → starts_with eqb (take (length s - i) (drop i s)) p ≡ starts p (drop i s)
+starts_rest p s i = rw (take_all (length s - i) (drop i s) (omega (arith, length-drop i s))) (starts_slice (drop i s) p)
 
 -- ---- the first offset
 
@@ -74,20 +44,38 @@ module _ (p s : List ℕ) (i : ℕ) where
   unfolding offset_of
   offset_end h = omega arith
 
--- ---- no part
+-- ---- the first byte
 
-module _ (s : List ℕ) (a e : ℕ) where
-  pub none_past : length s < e → [] ≡ part_of s a e
-  unfolding part_of
-  none_past h = rw (lt-leb _ _ h)
+ahead_is : (b : ℕ) (s : List ℕ) → position_or_len (λ c. eqb c b) s ≡ ahead (b ∷ []) s
+unfolding ahead starts
+ahead_is b [] = refl
+ahead_is b (c ∷ s) = step (eqb c b) (ahead_is b s)
+  where
+    step : (t : Bool) {m n : ℕ} → m ≡ n → cond (not t) (1 + m) 0 ≡ cond (t && true) 0 (suc n)
+    step true e = refl
+    step false e = omega arith
 
-  pub none_back : e < a → [] ≡ part_of s a e
+-- xs is all of s from the offset on
+module _ (b : ℕ) (s : List ℕ) (from : ℕ) (xs : List ℕ) (is : xs ≡ part_of s from (length s)) where
+  all_from : xs ≡ drop from s
   unfolding part_of
-  none_back h = let z : e - a ≡ 0 = omega arith in rw z (same (leb e (length s)))
-    where
-      same : (t : Bool) → ◌≡◌ {A = List ℕ} [] (cond t [] [])
-      same true = refl
-      same false = refl
+  all_from = is ∙ rw (le-leb (length s) (length s) (omega arith)) (take_all (length s - from) (drop from s) (omega (arith, length-drop from s)))
+
+  pub byte_found : (n : ℕ) → Some n ≡ position (λ c. eqb c b) xs → (from + n ≡ offset_of (b ∷ []) s from) × (from + n < length s)
+  unfolding offset_of
+  byte_found n e =
+      let h = rw all_from at e in
+      let a : position_or_len (λ c. eqb c b) (drop from s) ≡ ahead (b ∷ []) (drop from s) = ahead_is b (drop from s) in
+      let l = length-drop from s in
+      grind (arith, nat_tests)
+
+  pub byte_not_found : None ≡ position (λ c. eqb c b) xs → length s ≡ offset_of (b ∷ []) s from
+  unfolding offset_of
+  byte_not_found e =
+      let h = rw all_from at e in
+      let a : position_or_len (λ c. eqb c b) (drop from s) ≡ ahead (b ∷ []) (drop from s) = ahead_is b (drop from s) in
+      let l = length-drop from s in
+      grind (arith, nat_tests)
 
 -- ---- blanks
 
@@ -126,8 +114,3 @@ module _ (s : List ℕ) where
   pub blanks_of_some : (length s ≡ 0 → ⊥) → doubled true s ≡ blank_too_many s
   unfolding blank_too_many doubled
   blanks_of_some h = rw (ne_eqb _ 0 h)
-
--- the first n bytes are a part, where there are as many
-pub first_part : (n : ℕ) (s : List ℕ) → n ≤ length s → part_of s 0 n ≡ take n s
-unfolding part_of
-first_part n s h = let e : n - 0 ≡ n = omega arith in rw (le-leb n (length s) h, e)

@@ -2,10 +2,10 @@
 // No function reads or writes a file, and a line may have any bytes.
 #![tactic(auto)]
 
-mod kept;
+mod line;
 mod scan;
 
-pub use kept::{Kept, keep, nothing_kept};
+pub use line::Line;
 pub use scan::{find, find_arrow, has_blank_too_many, part};
-pub use text_numbers::read::{Fault, Field, Signed, read_signed, read_unsigned, read_word};
+pub use text_numbers::read::{Fault, read_signed, read_unsigned, read_word};
 pub use text_numbers::write::{write_bytes, write_signed, write_unsigned, write_word};

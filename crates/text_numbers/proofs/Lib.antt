@@ -1,9 +1,6 @@
-mod Counting
 mod Limits
 mod Placing
-mod Reading
-mod SignedDigits
+pub mod Reading
 mod Writing
 pub mod Parts
 pub mod RoundTrip
-pub mod Signs

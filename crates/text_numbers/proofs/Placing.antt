@@ -1,11 +1,11 @@
--- Laws of writers: nothing is placed where there is no room, and a borrowed part that was filled is placed. Assumes nothing.
+-- Laws of writers: nothing is placed where there is no room, and a byte is placed before others. Assumes nothing.
 use mathlib.Core.Path.{◌≡◌, refl, sym, ap, ◌∙◌}
 use mathlib.Core.List.{List, [], ◌∷◌, ◌++◌, append_assoc}
-use Prim.Native.Nat.{ℕ, zero, suc, ◌+◌, ◌-◌, ◌/◌, ◌%◌, ◌≤◌, ◌<◌}
+use Prim.Native.Nat.{ℕ, zero, suc, ◌+◌, ◌/◌, ◌%◌, ◌≤◌, ◌<◌}
 use native.Mathlib.Numerals.{add-one}
 use native.Mathlib.Omega.{arith}
-use lib.ListN.{length, take, drop, set, get_or, length-append, length-drop}
-use lib.Seq.{paste, paste-suc, take-length, length-take-le, drop-drop, set-append_left, take-set-lt, take-suc-set}
+use lib.ListN.{length, take, drop, set, length-append}
+use lib.Seq.{paste, length-take-le, set-append_left, take-set-lt, take-suc-set}
 use borrow.Author.Tests.{le-leb, lt-leb}
 use Rattle.algebra.proofs.Products.{order}
 use Rattle.text_numbers.specs.Digits.{glyph_of, digits_of}
@@ -19,30 +19,11 @@ module _ {xs : List ℕ} {at : ℕ} (ys : List ℕ) where
       → xs' ≡ paste xs at ys (length ys) → at' ≡ at + length ys → Placed xs at ys xs' at'
   placed h b p = record { bytes = simp (le-leb _ _ h) b; offset = simp (le-leb _ _ h) p }
 
--- a part of k elements of xs, from at on, replaced by ys
-pub part_placed : (xs ys : List ℕ) (at k : ℕ) → length ys ≡ k → take at xs ++ (ys ++ drop k (drop at xs)) ≡ paste xs at ys (length ys)
-part_placed xs ys at k e = rw (e, drop-drop) (rw (← e, take-length) (sym (append_assoc (take at xs) ys (drop (at + length ys) xs))))
-
--- one more element of a copy
-pub copy_step : (xs s : List ℕ) (at i : ℕ) → at + i < length xs → i < length s → set (paste xs at s i) (at + i) (get_or s i 0) ≡ paste xs at s (i + 1)
-copy_step xs s at i h l = rw add-one (paste-suc xs at s i 0 h l)
-
 -- k digits have the length k
 pub length_digits : (b k n : ℕ) → length (digits_of b k n) ≡ k
 unfolding digits_of
 length_digits b zero n = refl
 length_digits b (suc k) n = length-append (digits_of b k (n / b)) (glyph_of (n % b) ∷ []) ∙ omega (arith, length_digits b k (n / b))
-
--- a part that was filled with k digits
-pub digits_placed : (b k n at : ℕ) (xs ys : List ℕ) → at + k ≤ length xs → ys ≡ digits_of b (length (take (at + k - at) (drop at xs))) n
-    → Placed xs at (digits_of b k n) (take at xs ++ (ys ++ drop (at + k - at) (drop at xs))) (at + k)
-digits_placed b k n at xs ys h e =
-    let span : at + k - at ≡ k = omega arith in
-    let size : length (take (at + k - at) (drop at xs)) ≡ k = rw span (length-take-le k (drop at xs) (omega (arith, length-drop at xs))) in
-    let is : ys ≡ digits_of b k n = e ∙ ap (λ (m : ℕ). digits_of b m n) size in
-    placed (digits_of b k n) (omega (arith, length_digits b k n))
-    (ap (λ (l : List ℕ). take at xs ++ (l ++ drop (at + k - at) (drop at xs))) is ∙ part_placed xs (digits_of b k n) at (at + k - at) (length_digits b k n ∙ sym span))
-    (omega (arith, length_digits b k n))
 
 -- a byte stored before the copied bytes
 store_before : (xs ds : List ℕ) (at k a : ℕ) → at < length xs → set (paste xs (at + 1) ds k) at a ≡ paste xs at (a ∷ ds) (suc k)

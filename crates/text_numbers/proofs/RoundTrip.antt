@@ -12,9 +12,7 @@ use mir.Val.{SFits}
 use borrow.Author.Tests.{lt-ltb, le-ltb, eq-eqb, ne_eqb}
 use Rattle.algebra.proofs.Products.{order}
 use Rattle.algebra.proofs.Quotients.{div_mod}
-use Rattle.text_numbers.specs.declared.digits.Digits.TheVariants.{Number}
-use Rattle.text_numbers.specs.declared.read.Field.TheVariants.{Value}
-use Rattle.text_numbers.specs.declared.read.Signed.TheVariants.{Integer}
+use Rattle.std.specs.Prelude.{Some, Ok}
 use Rattle.text_numbers.specs.Digits.{digit_of, glyph_of, read_on, digits_of}
 use Rattle.text_numbers.specs.Written.{signed_digits, Fewest}
 use Rattle.text_numbers.specs.Fields.{word_of, leads_with_zero, natural_of, signed_of}
@@ -49,14 +47,14 @@ digits_read b low high (suc k) n v t h =
     (ap (λ (m : ℕ). read_on b m t) (rw pow-suc (omega arith)))
 
 -- the digits of n, alone
-pub all_read : (b : ℕ) → 1 < b → b ≤ 16 → (k n : ℕ) → n < b ^ k → read_on b 0 (digits_of b k n) ≡ Number n
+pub all_read : (b : ℕ) → 1 < b → b ≤ 16 → (k n : ℕ) → n < b ^ k → read_on b 0 (digits_of b k n) ≡ Some n
 unfolding read_on
 all_read b low high k n h =
     let e : 0 * b ^ k + n ≡ n = omega arith in
-    ap (read_on b 0) (sym (append-nil (digits_of b k n))) ∙ digits_read b low high k n 0 [] h ∙ ap Number e
+    ap (read_on b 0) (sym (append-nil (digits_of b k n))) ∙ digits_read b low high k n 0 [] h ∙ ap Some e
 
 -- a word is read as it was written
-pub word_read : (width x : ℕ) → width ≤ 16 → x < 16 ^ width → word_of width (digits_of 16 width x) ≡ Value x
+pub word_read : (width x : ℕ) → width ≤ 16 → x < 16 ^ width → word_of width (digits_of 16 width x) ≡ Ok x
 unfolding word_of
 word_read width x most h =
     simp (eq-eqb _ _ (length_digits 16 width x), le-ltb 16 width most, all_read 16 (omega arith) (omega arith) width x h)
@@ -84,7 +82,7 @@ no_leading_zero n (suc (suc j)) f =
     (ne_eqb (48 + n / 10 ^ suc j) 48 (λ z. absurd (omega arith)))
 
 -- a number is read as it was written
-pub natural_read : (n k : ℕ) → Fewest n k → natural_of (digits_of 10 k n) ≡ Value n
+pub natural_read : (n k : ℕ) → Fewest n k → natural_of (digits_of 10 k n) ≡ Ok n
 unfolding natural_of
 natural_read n k f =
     simp (no_leading_zero n k f, length_digits 10 k n, ne_eqb k 0 (λ z. absurd (omega (arith, f.some))), all_read 10 (omega arith) (omega arith) k n f.hold)
@@ -101,7 +99,7 @@ no_minus n zero h e = absurd (omega arith)
 no_minus n (suc j) h e = glyph_no_minus (n / 10 ^ j % 10) (sym (first_digit 10 j n) ∙ e)
 
 -- a number with a sign is read as it was written
-pub signed_read : (z : ℤ) (k : ℕ) → SFits w32 z → Fewest (nat_abs z) k → signed_of (signed_digits z k) ≡ Integer z
+pub signed_read : (z : ℤ) (k : ℕ) → SFits w32 z → Fewest (nat_abs z) k → signed_of (signed_digits z k) ≡ Ok z
 unfolding signed_of
 signed_read (pos n) k fit f =
     simp (

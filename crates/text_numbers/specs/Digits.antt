@@ -1,7 +1,5 @@
 -- Numbers as text in a base up to sixteen: the value of digits read, and the digits of a number written. Assumes nothing.
-use Rattle.std.specs.Prelude.{ℕ, zero, suc, ◌+◌, ◌-◌, ◌*◌, ◌/◌, ◌%◌, min, cond, List, [], ◌∷◌, ◌++◌, ltb}
-use Rattle.text_numbers.specs.declared.digits.Digits.{Digits}
-use Rattle.text_numbers.specs.declared.digits.Digits.TheVariants.{Number, Wrong}
+use Rattle.std.specs.Prelude.{ℕ, zero, suc, ◌+◌, ◌-◌, ◌*◌, ◌/◌, ◌%◌, min, cond, List, [], ◌∷◌, ◌++◌, ltb, Option, Some, None}
 
 -- a byte as a digit: `0` to `9`, then `a` to `f`; 16 for every other byte
 abbrev pub digit_of : ℕ → ℕ
@@ -11,15 +9,15 @@ digit_of c = cond (ltb c 48) 16 (cond (ltb c 58) (c - 48) (cond (ltb c 97) 16 (c
 abbrev pub glyph_of : ℕ → ℕ
 glyph_of d = cond (ltb d 10) (48 + d) (87 + d)
 
--- the number that the bytes s spell in base b, after digits of value v: refused at a byte that is not a digit of the base, and only there
-unfoldable pub read_on : ℕ → ℕ → List ℕ → Digits
-read_on b v [] = Number v
-read_on b v (c ∷ s) = cond (ltb (digit_of c) b) (read_on b (v * b + digit_of c) s) Wrong
+-- the number that the bytes s spell in base b, after digits of value v: none at a byte that is not a digit of the base, and only there
+unfoldable pub read_on : ℕ → ℕ → List ℕ → Option ℕ
+read_on b v [] = Some v
+read_on b v (c ∷ s) = cond (ltb (digit_of c) b) (read_on b (v * b + digit_of c) s) None
 
 -- the same with a limit: a number above m counts as m
-abbrev pub capped : ℕ → Digits → Digits
-capped m (Number v) = Number (min v m)
-capped m Wrong = Wrong
+abbrev pub capped : ℕ → Option ℕ → Option ℕ
+capped m (Some v) = Some (min v m)
+capped m None = None
 
 -- the last k digits of n in base b, the most significant first
 unfoldable pub digits_of : ℕ → ℕ → ℕ → List ℕ

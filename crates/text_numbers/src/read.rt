@@ -1,11 +1,13 @@
 // Reads one field of a line: a word in hexadecimal digits, a number in decimal ones.
-ghost use Rattle.std.specs.Prelude.{◌≡◌, ◌≤◌, pos, neg_ℤ};
-ghost use Rattle.text_numbers.specs.Fields.{field_of, word_of, leads_with_zero, natural_of, capped_field, up_to, plus_of, minus_of, signed_of};
+ghost use Rattle.std.specs.Prelude.{◌≡◌, Ok, Some};
+ghost use Rattle.text_numbers.specs.Fields.{words_of, word_of, leads_with_zero, natural_of, capped_field, up_to, plus_of, minus_of, signed_of};
 
-use crate::digits::{Digits, read_decimal, read_digits};
+use crate::digits::{read_decimal, read_digits};
+use std::error::Error;
+use std::fmt;
 
 // The faults of a field.
-#[derive(Clone, Copy)]
+#[derive(Clone, Copy, Debug, PartialEq, Eq)]
 pub enum Fault {
     WrongLength,
     WrongDigit,
@@ -15,130 +17,96 @@ pub enum Fault {
     OutOfRange,
 }
 
-#[derive(Clone, Copy)]
-pub enum Field {
-    Value(u64),
-    Not(Fault),
-}
+impl fmt::Display for Fault {
+    ghost output = { λ f. Some (words_of f) };
 
-#[derive(Clone, Copy)]
-pub enum Signed {
-    Integer(i32),
-    NoInteger(Fault),
-}
-
-fn as_field(d: Digits) -> Field
-    ensures { result ≡ field_of d }
-{
-    match d {
-        Digits::Number(v) => Field::Value(v),
-        Digits::Wrong => Field::Not(Fault::WrongDigit),
+    fn fmt<W: fmt::Write>(&self, f: &mut fmt::Formatter<W>) -> fmt::Result {
+        f.write_str(match self {
+            Fault::WrongLength => "has a wrong length",
+            Fault::WrongDigit => "has a wrong digit",
+            Fault::NoDigit => "has no digits",
+            Fault::LeadingZero => "begins with a zero",
+            Fault::MinusZero => "is a zero with a sign",
+            Fault::OutOfRange => "is out of range",
+        })
     }
 }
+
+impl Error for Fault {}
 
 // A word of `width` digits.
-pub fn read_word(s: &[u8], width: usize) -> Field
+#[tactic(auto, unfolding(crate::specs::Fields::word_of))]
+pub fn read_word(s: &[u8], width: usize) -> Result<u64, Fault>
     ensures { result ≡ word_of width s.now }
 {
-    if s.len() != width {
-        return Field::Not(Fault::WrongLength);
+    if s.len() != width || width > 16 {
+        return Err(Fault::WrongLength);
     }
-    if width > 16 {
-        return Field::Not(Fault::WrongLength);
-    }
-    as_field(read_digits(s, 16))
+    read_digits(s, 16).ok_or(Fault::WrongDigit)
 }
 
+#[tactic(auto, unfolding(crate::specs::Fields::leads_with_zero))]
 fn leads_with_zero(s: &[u8]) -> bool
     ensures { result ≡ leads_with_zero s.now }
 {
-    if s.len() > 1 { s[0] == 48 } else { false }
+    s.len() > 1 && s[0] == b'0'
 }
 
 // A number without a sign. A number above 4294967296 counts as that one, which is out of every range.
-fn read_number(s: &[u8]) -> Field
+#[tactic(auto, unfolding(crate::specs::Fields::natural_of))]
+fn read_number(s: &[u8]) -> Result<u64, Fault>
     ensures { result ≡ capped_field 4294967296 (natural_of s.now) }
 {
-    if s.len() == 0 {
-        return Field::Not(Fault::NoDigit);
+    if s.is_empty() {
+        return Err(Fault::NoDigit);
     }
     if leads_with_zero(s) {
-        return Field::Not(Fault::LeadingZero);
+        return Err(Fault::LeadingZero);
     }
-    as_field(read_decimal(s))
-}
-
-fn in_unsigned_range(f: Field) -> Field
-    ensures { result ≡ up_to 4294967295 f }
-{
-    match f {
-        Field::Value(v) => {
-            if v > 4294967295 {
-                Field::Not(Fault::OutOfRange)
-            } else {
-                Field::Value(v)
-            }
-        }
-        Field::Not(e) => Field::Not(e),
-    }
+    read_decimal(s).ok_or(Fault::WrongDigit)
 }
 
 // A number from 0 to 4294967295.
-pub fn read_unsigned(s: &[u8]) -> Field
+#[tactic(auto, using(crate::proofs::Limits::up_cap))]
+pub fn read_unsigned(s: &[u8]) -> Result<u64, Fault>
     ensures { result ≡ up_to 4294967295 (natural_of s.now) }
 {
-    in_unsigned_range(read_number(s))
-}
-
-fn as_positive(f: Field) -> Signed
-    ensures { result ≡ plus_of f }
-{
-    match f {
-        Field::Value(v) => {
-            if v > 2147483647 {
-                Signed::NoInteger(Fault::OutOfRange)
-            } else {
-                Signed::Integer(v as i32)
-            }
-        }
-        Field::Not(e) => Signed::NoInteger(e),
+    let v = read_number(s)?;
+    if v > u32::MAX as u64 {
+        return Err(Fault::OutOfRange);
     }
+    Ok(v)
 }
 
-fn negate(v: u64) -> i32
-    requires { v ≤ 2147483648 }
-    ensures { result ≡ neg_ℤ (pos v) }
+fn as_positive(v: u64) -> Result<i32, Fault>
+    ensures { result ≡ plus_of (Ok v) }
 {
-    (0 - v as i64) as i32
+    i32::try_from(v).map_err(|_| Fault::OutOfRange)
 }
 
-fn as_negative(f: Field) -> Signed
-    ensures { result ≡ minus_of f }
+fn as_negative(v: u64) -> Result<i32, Fault>
+    ensures { result ≡ minus_of (Ok v) }
 {
-    match f {
-        Field::Value(v) => {
-            if v == 0 {
-                return Signed::NoInteger(Fault::MinusZero);
-            }
-            if v > 2147483648 {
-                return Signed::NoInteger(Fault::OutOfRange);
-            }
-            Signed::Integer(negate(v))
-        }
-        Field::Not(e) => Signed::NoInteger(e),
+    if v == 0 {
+        return Err(Fault::MinusZero);
     }
+    if v > 2147483648 {
+        return Err(Fault::OutOfRange);
+    }
+    Ok(-(v as i64) as i32)
 }
 
 // A number from -2147483648 to 2147483647.
-pub fn read_signed(s: &[u8]) -> Signed
+#[tactic(auto, using(crate::proofs::Limits::plus_cap, crate::proofs::Limits::minus_cap), unfolding(crate::specs::Fields::signed_of))]
+pub fn read_signed(s: &[u8]) -> Result<i32, Fault>
     ensures { result ≡ signed_of s.now }
 {
-    if s.len() == 0 {
-        return Signed::NoInteger(Fault::NoDigit);
+    if s.is_empty() {
+        return Err(Fault::NoDigit);
     }
-    if s[0] == 45 {
-        as_negative(read_number(&s[1..]))
+    if s[0] == b'-' {
+        as_negative(read_number(&s[1..])?)
     } else {
-        as_positive(read_number(s))
+        as_positive(read_number(s)?)
     }
 }

@@ -1,5 +1,6 @@
 // Writes into a borrowed buffer: each writer stores its bytes at an offset and returns the offset after them. Where they do not fit, it stores
-// nothing and returns the offset that it was given.
+// nothing and returns the offset that it was given. The two stay apart here, as `Placed`, by which all these contracts speak, has
+// them; the programs have them as one value (cmd_streams).
 ghost use Rattle.std.specs.Prelude.{◌≡◌, ◌∷◌, ℕ, ◌+◌, ◌≤◌, ◌<◌, length, nat_abs};
 ghost use Rattle.std.proofs.Math.Seq.{paste};
 ghost use Rattle.text_numbers.specs.Digits.{digits_of};
@@ -8,39 +9,24 @@ ghost use Rattle.text_numbers.specs.Placed.{Placed};
 
 use crate::digits::fill_digits;
 
-fn copy(out: &mut [u8], at: usize, s: &[u8])
-    requires { at + length s.now ≤ length out.old }
-    ensures { out.new ≡ paste out.old at s.now (length s.now) }
-{
-    let mut i = 0;
-    while i < s.len() {
-        out[at + i] = s[i];
-        i += 1;
-    }
-}
-
 pub fn write_bytes(out: &mut [u8], at: usize, s: &[u8]) -> usize
     ensures { Placed out.old at s.now out.new result }
 {
-    if at > out.len() {
+    if at > out.len() || s.len() > out.len() - at {
         return at;
     }
-    if s.len() > out.len() - at {
-        return at;
-    }
-    copy(out, at, s);
-    at + s.len()
+    let end = at + s.len();
+    out[at..end].copy_from_slice(s);
+    end
 }
 
 // The last k digits of n.
 pub fn write_digits(out: &mut [u8], at: usize, base: u64, k: usize, n: u64) -> usize
-    requires { (1 < base) × (base ≤ 16) }
+    requires least { 1 < base }
+    requires most { base ≤ 16 }
     ensures { Placed out.old at (digits_of base k n) out.new result }
 {
-    if at > out.len() {
-        return at;
-    }
-    if k > out.len() - at {
+    if at > out.len() || k > out.len() - at {
         return at;
     }
     let end = at + k;
@@ -58,13 +44,10 @@ pub fn write_word(out: &mut [u8], at: usize, x: u64, width: usize) -> usize
 pub fn digit_count(n: u64) -> usize
     ensures { Fewest n result }
 {
-    let mut k = 1;
-    let mut rest = n / 10;
-    while rest > 0 {
-        rest /= 10;
-        k += 1;
+    match n.checked_ilog10() {
+        Some(k) => k as usize + 1,
+        None => 1,
     }
-    k
 }
 
 // A number in as few decimal digits as possible.
@@ -72,16 +55,6 @@ pub fn write_unsigned(out: &mut [u8], at: usize, n: u64) -> usize
     ensures { (k : ℕ) × Fewest n k × Placed out.old at (digits_of 10 k n) out.new result }
 {
     write_digits(out, at, 10, digit_count(n), n)
-}
-
-fn size_of(n: i32) -> u64
-    ensures { result ≡ nat_abs n }
-{
-    if n < 0 {
-        (0 - n as i64) as u64
-    } else {
-        n as u64
-    }
 }
 
 // A negative number, by its absolute value. The digits are written first, so that a minus is never left alone.
@@ -105,9 +78,10 @@ fn write_minus(out: &mut [u8], at: usize, size: u64) -> usize
 pub fn write_signed(out: &mut [u8], at: usize, n: i32) -> usize
     ensures { (k : ℕ) × Fewest (nat_abs n) k × Placed out.old at (signed_digits n k) out.new result }
 {
-    let size = size_of(n);
+    let size = n.unsigned_abs() as u64;
     if n < 0 {
-        return write_minus(out, at, size);
+        write_minus(out, at, size)
+    } else {
+        write_unsigned(out, at, size)
     }
-    write_unsigned(out, at, size)
 }

@@ -3,10 +3,10 @@
 
 ghost use Rattle.std.specs.Prelude.{◌≡◌, ◌*◌, ◌/◌, ◌%◌, ◌-◌, ◌<◌, ◌^◌, ltb};
 
-// A word shifted right, and whether a nonzero bit was dropped.
+// A number shifted right, of one word or of more, and whether a nonzero bit was dropped. There is a number in either case, so an Option would not say it.
 #[derive(Clone, Copy)]
-pub struct ShiftedWord {
-    pub word: u64,
+pub struct Shifted<S> {
+    pub value: S,
     pub lost: bool,
 }
 
@@ -39,24 +39,21 @@ pub fn low_bits(a: u64, k: u32) -> u64
     requires { k < 64 }
     ensures { result ≡ a % 2 ^ k }
 {
-    let unit = pow(k);
-    a % unit
+    a % pow(k)
 }
 
 // a / 2^k for every k. The mark is read from a, which still has the dropped bits.
-pub fn shr_lost(a: u64, k: u32) -> ShiftedWord
-    ensures { (result.word ≡ a / 2 ^ k) × (result.lost ≡ ltb 0 (a % 2 ^ k)) }
+pub fn shr_lost(a: u64, k: u32) -> Shifted<u64>
+    ensures { (result.value ≡ a / 2 ^ k) × (result.lost ≡ ltb 0 (a % 2 ^ k)) }
 {
     if k >= 64 {
-        return ShiftedWord {
-            word: 0,
+        return Shifted {
+            value: 0,
             lost: 0 < a,
         };
     }
-    let word = a >> k;
-    let leaving = low_bits(a, k);
-    ShiftedWord {
-        word: word,
-        lost: 0 < leaving,
+    Shifted {
+        value: a >> k,
+        lost: 0 < low_bits(a, k),
     }
 }

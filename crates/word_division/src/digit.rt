@@ -21,7 +21,7 @@ pub fn normal_shift(d: u64) -> u32
     requires { 0 < d }
     ensures { (result < 64) × (2 ^ 63 ≤ d * 2 ^ result) × (d * 2 ^ result < 2 ^ 64) }
 {
-    u64::leading_zeros(d)
+    d.leading_zeros()
 }
 
 // Subtracts one where the digit is too large for d and the next digit l. Where rest is a digit or more, the estimate is right.
@@ -59,7 +59,7 @@ pub fn quotient_digit(h: u64, l: u64, d: u64) -> Divided
     let third = adjust_estimate(second, l, d);
     let q = third.digit;
     let rest = third.rest;
-    let left = std::num::wrapping_sub_u64((rest << 32) + l, q * (d % 0x1_0000_0000));
+    let left = ((rest << 32) + l).wrapping_sub(q * (d % 0x1_0000_0000));
     Divided {
         quotient: q,
         remainder: left,

@@ -3,14 +3,7 @@ ghost use Rattle.std.specs.Prelude.{◌≡◌, ◌*◌, ◌/◌, ◌%◌, ◌^�
 ghost use Rattle.word_wide.specs.Value.{value};
 
 use crate::Wide;
-pub use word_bits::{ShiftedWord, low_bits, pow, shl_carry, shr_carry, shr_lost};
-
-// Two words shifted right, and whether a nonzero bit was dropped.
-#[derive(Clone, Copy)]
-pub struct ShiftedWide {
-    pub wide: Wide,
-    pub lost: bool,
-}
+pub use word_bits::{Shifted, low_bits, pow, shl_carry, shr_carry, shr_lost};
 
 // a * 2^k, where two words hold it.
 pub fn shl(a: Wide, k: u32) -> Wide
@@ -31,32 +24,32 @@ pub fn shl(a: Wide, k: u32) -> Wide
 }
 
 // a / 2^k for every k, with the mark of the dropped bits. For k of a word or more the whole low word is dropped.
-pub fn shr(a: Wide, k: u32) -> ShiftedWide
-    ensures { (value result.wide ≡ value a / 2 ^ k) × (result.lost ≡ nat_lt 0 (value a % 2 ^ k)) }
+pub fn shr(a: Wide, k: u32) -> Shifted<Wide>
+    ensures { (value result.value ≡ value a / 2 ^ k) × (result.lost ≡ nat_lt 0 (value a % 2 ^ k)) }
 {
     if k >= 64 {
         let kept = shr_lost(a.hi, k - 64);
         let wide = Wide {
             hi: 0,
-            lo: kept.word,
+            lo: kept.value,
         };
         if 0 < a.lo {
-            return ShiftedWide {
-                wide: wide,
+            return Shifted {
+                value: wide,
                 lost: true,
             };
         }
-        return ShiftedWide {
-            wide: wide,
+        return Shifted {
+            value: wide,
             lost: kept.lost,
         };
     }
     let kept = shr_lost(a.lo, k);
     let carry = shr_carry(a.hi, k);
-    ShiftedWide {
-        wide: Wide {
+    Shifted {
+        value: Wide {
             hi: a.hi >> k,
-            lo: carry + kept.word,
+            lo: carry + kept.value,
         },
         lost: kept.lost,
     }

@@ -1,4 +1,4 @@
--- `word_bits::shl_carry` meets its contract: its two shifts and k add up to a word. Assumes nothing.
+-- The two shifts and k add up to a word. Assumes nothing.
 use native.Mathlib.Omega.{arith}
 use Rattle.word_bits.proofs.TwoShifts.{above_by_shifts}
 use Rattle.word_bits.proofs.shl_carry.Goals as goal

@@ -1,4 +1,4 @@
--- `word_bits::shr_carry` meets its contract: its two shifts and k add up to a word. Assumes nothing.
+-- The two shifts and k add up to a word. Assumes nothing.
 use Prim.Native.Nat.{◌-◌, ◌^◌}
 use native.Mathlib.Omega.{arith}
 use Rattle.word_bits.proofs.TwoShifts.{below_by_shifts}

@@ -1,30 +1,30 @@
 -- The digits read whole are all of the text (Exponents). Assumes nothing.
-use Prim.Native.Nat.{◌≤◌}
-use mathlib.Core.Path.{refl, sym, ◌∙◌}
-use native.Mathlib.Omega.{arith}
-use lib.ListN.{length}
+use Rattle.std.proofs.Common.{◌≤◌, length, sym, ◌∙◌, ap, Some, arith}
+use Rattle.std.proofs.lemmas.Bool.{eqb-true}
+use mir.Syntax.{w32}
+use mir.Val.{SFits}
+use mir.ValLaws.{to_z-of_z}
 use Rattle.ieee.specs.Pattern.{with_sign}
-use Rattle.hex_read.proofs.Exponents.{few_none, few_long, few_number, few_wrong, few_small}
+use Rattle.hex_read.proofs.Exponents.{few_none, few_long, few_some, few_wrong, few_small}
 use Rattle.hex_read.proofs.exponent.read_few.Goals as goal
+use Rattle.hex_read.proofs.exponent.read_few.Goals.{then-is_empty-via-then-is_empty, then-is_empty-via-else-is_empty+then-s-gt-MOST}
 
-pub returns-then-s-eq0 : goal.returns-then-s-eq0
-returns-then-s-eq0 c =
+pub returns-then-is_empty-clause-value : goal.returns-then-is_empty-clause-value
+returns-then-is_empty-clause-value c =
     let a = c.args in
-    rw (few_none (with_sign a.neg) a.s.now c.if-s-eq0.true) c.no_exponent.ensures.0
+    elim c.then-is_empty.branch [
+      | then-is_empty-via-then-is_empty w ↦ sym (few_none (with_sign a.neg) a.s.now (eqb-true _ _ (sym c.is_empty.ensures ∙ w.if-is_empty.true)))
+      | then-is_empty-via-else-is_empty+then-s-gt-MOST w ↦ sym (few_long (with_sign a.neg) a.s.now w.if-s-gt-MOST.true)
+    ]
 
-pub returns-then-s-gt5 : goal.returns-then-s-gt5
-returns-then-s-gt5 c =
-    let a = c.args in
-    rw (few_long (with_sign a.neg) a.s.now (omega (arith, c.if-s-gt5.true))) c.no_exponent-then-s-gt5.ensures.0
+pub returns-in_err-read_digits-clause-value : goal.returns-in_err-read_digits-clause-value
+returns-in_err-read_digits-clause-value c = rw c.from_residual.ensures (sym (few_wrong (with_sign c.args.neg) c.args.s.now (sym c.in_err-read_digits.ensures)))
 
-pub returns-in-Number : goal.returns-in-Number
-returns-in-Number c =
-    let a = c.args in
-    let e = sym c.in-Number.ensures in
-    let few : length a.s.now ≤ 5 = omega (arith, c.if-s-gt5.false) in
-    rw (few_number (with_sign a.neg) a.s.now c.in-Number.v (omega arith) few e) (refl, refl, few_small a.s.now c.in-Number.v few e)
+pub signed-requires : goal.signed-requires
+signed-requires c = few_small c.args.s.now _ c.if-s-gt-MOST.false c.in_ok-read_digits.ensures
 
-pub returns-in-Wrong : goal.returns-in-Wrong
-returns-in-Wrong c =
-    let a = c.args in
-    rw (few_wrong (with_sign a.neg) a.s.now (sym c.in-Wrong.ensures)) c.no_exponent-in-Wrong.ensures.0
+pub returns-clause-value : goal.returns-clause-value
+returns-clause-value c =
+    let some : 1 ≤ length c.args.s.now = grind (arith, c.is_empty.ensures) in
+    let fits : SFits w32 c.signed.result = record { sfits = omega (arith, c.signed.ensures.small) } in
+    ap Some (to_z-of_z w32 _ fits ∙ c.signed.ensures.value) ∙ few_some (with_sign c.args.neg) c.args.s.now _ some c.if-s-gt-MOST.false c.in_ok-read_digits.ensures

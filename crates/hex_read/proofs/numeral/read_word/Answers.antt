@@ -1,47 +1,45 @@
--- Each test by its law (Numerals). Assumes nothing.
-use mathlib.Core.Path.{◌≡◌, ap, ◌∙◌}
-use native.Mathlib.Omega.{arith}
+-- Each test is one of the definition. Assumes nothing.
+use Rattle.std.proofs.Common.{◌≡◌, true, false, ap, ◌∙◌, arith, Some}
 use Rattle.ieee.specs.Pattern.{signed}
 use Rattle.ieee.proofs.Patterns.{inf_below_top}
-use Rattle.fmt_fields.specs.Width.{format}
+use Rattle.fmt_fields.specs.Layout.{format_of}
 use Rattle.ieee_numeral_laws.specs.Numeral.{inf_text, nan_text}
 use Rattle.ieee_numeral_laws.specs.Reading.{same}
+use Rattle.ieee_numeral_laws.specs.Read.{value_in}
+use Rattle.hex_read.specs.Found.{word_of}
 use Rattle.hex_read.proofs.Texts.{same_by}
-use Rattle.hex_read.proofs.Numerals.{not_found, infinity_found, nan_found, word_plus, word_infinity, word_minus, word_nan, word_none}
 use Rattle.hex_read.proofs.numeral.read_word.Goals as goal
+use Rattle.hex_read.proofs.numeral.read_word.Goals.{else-not-neg-via-then-not-neg+else-same-2, else-not-neg-via-else-not-neg}
 
 pub returns-then-plus : goal.returns-then-plus
-returns-then-plus c a = let s = c.args in not_found _ a _ (word_plus s.plus s.neg s.s.now c.if-plus.true) c.not_found.ensures.0
+unfolding word_of
+returns-then-plus c a = rw c.if-plus.true
 
 pub with_sign-requires : goal.with_sign-requires
-with_sign-requires c =
-    let s = c.args in
-    (c.requires, omega (arith, c.infinity.ensures, inf_below_top (format s.frac s.expo)))
+with_sign-requires c = omega (arith, c.infinity.ensures, inf_below_top (format_of c.args.fmt))
 
 pub returns-then-same : goal.returns-then-same
+unfolding word_of value_in
 returns-then-same c a =
-    let s = c.args in
-    let is_inf = same_by s.s.now inf_text c.same.result c.same.ensures.0 c.same.ensures.1 in
-    infinity_found _ a _ s.neg (word_infinity s.plus s.neg s.s.now c.if-plus.false (is_inf ∙ c.if-same.true)) c.as_found.ensures.0
-    (c.as_found.ensures.1 ∙ c.with_sign.ensures ∙ ap (signed (format s.frac s.expo) s.neg) c.infinity.ensures)
-
-pub returns-then-neg : goal.returns-then-neg
-returns-then-neg c a =
-    let s = c.args in
-    let is_inf = same_by s.s.now inf_text c.same.result c.same.ensures.0 c.same.ensures.1 in
-    not_found _ a _ (word_minus s.plus s.neg s.s.now c.if-plus.false (is_inf ∙ c.if-same.false) c.if-neg.true) c.not_found-then-neg.ensures.0
+    let is_inf : same c.args.s.now inf_text ≡ true = same_by c.args.s.now inf_text c.same.result c.same.ensures.0 c.same.ensures.1 ∙ c.if-same.true in
+    rw (c.if-plus.false, is_inf) (ap Some (c.with_sign.ensures ∙ ap (signed (format_of c.args.fmt) c.args.neg) c.infinity.ensures))
 
 pub returns-then-same-2 : goal.returns-then-same-2
+unfolding word_of value_in
 returns-then-same-2 c a =
-    let s = c.args in
-    let is_inf = same_by s.s.now inf_text c.same.result c.same.ensures.0 c.same.ensures.1 in
-    let is_nan = same_by s.s.now nan_text c.same-2.result c.same-2.ensures.0 c.same-2.ensures.1 in
-    nan_found _ a _ (word_nan s.plus s.neg s.s.now c.if-plus.false (is_inf ∙ c.if-same.false) c.if-neg.false (is_nan ∙ c.if-same-2.true)) c.as_found-then-same-2.ensures.0
-    (c.as_found-then-same-2.ensures.1 ∙ c.nan.ensures)
+    let not_inf : same c.args.s.now inf_text ≡ false = same_by c.args.s.now inf_text c.same.result c.same.ensures.0 c.same.ensures.1 ∙ c.if-same.false in
+    let nan = c.same-then-not-neg in
+    let is_nan : same c.args.s.now nan_text ≡ true = same_by c.args.s.now nan_text nan.result nan.ensures.0 nan.ensures.1 ∙ c.if-same-2.true in
+    rw (c.if-plus.false, not_inf, c.if-not-neg.true, is_nan) (ap Some c.nan.ensures)
 
 pub returns : goal.returns
+unfolding word_of
 returns c a =
-    let s = c.args in
-    let is_inf = same_by s.s.now inf_text c.same.result c.same.ensures.0 c.same.ensures.1 in
-    let is_nan = same_by s.s.now nan_text c.same-2.result c.same-2.ensures.0 c.same-2.ensures.1 in
-    not_found _ a _ (word_none s.plus s.neg s.s.now c.if-plus.false (is_inf ∙ c.if-same.false) c.if-neg.false (is_nan ∙ c.if-same-2.false)) c.not_found-2.ensures.0
+    let not_inf : same c.args.s.now inf_text ≡ false = same_by c.args.s.now inf_text c.same.result c.same.ensures.0 c.same.ensures.1 ∙ c.if-same.false in
+    elim c.else-not-neg.branch [
+      | else-not-neg-via-then-not-neg+else-same-2 w ↦
+          let nan = w.same-then-not-neg in
+          let not_nan : same c.args.s.now nan_text ≡ false = same_by c.args.s.now nan_text nan.result nan.ensures.0 nan.ensures.1 ∙ w.if-same-2.false in
+          rw (c.if-plus.false, not_inf, w.if-not-neg.true, not_nan)
+      | else-not-neg-via-else-not-neg w ↦ rw (c.if-plus.false, not_inf, w.if-not-neg.false)
+    ]

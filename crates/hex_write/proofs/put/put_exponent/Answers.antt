@@ -1,7 +1,5 @@
 -- Two bytes and the digits, one behind the other (Puts). Assumes nothing.
-use mathlib.Core.Path.{ap}
-use mathlib.Core.List.{◌∷◌}
-use native.Mathlib.Omega.{arith}
+use Rattle.std.proofs.Common.{◌∷◌, ap, arith}
 use Rattle.text_numbers.specs.Digits.{digits_of}
 use Rattle.ieee_numeral_laws.proofs.Spellings.{digits_length}
 use Rattle.hex_write.proofs.Puts.{put_as, put_behind, put_placed}

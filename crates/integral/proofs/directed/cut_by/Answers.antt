@@ -1,19 +1,18 @@
 -- The cut in words is the definition's (Directions). Assumes nothing.
-use Rattle.std.proofs.Common.{suc, ◌+◌, ◌*◌, ◌/◌, ◌%◌, ◌^◌, sym, ap, ◌∙◌, rules}
-use Rattle.fmt_fields.specs.Width.{format}
+use Rattle.std.proofs.Common.{suc, ◌+◌, ◌*◌, ◌/◌, ◌%◌, ◌^◌, ap, ◌∙◌}
+use Rattle.std.proofs.Math.Logic.{∥∥₁_elim}
+use Rattle.std.proofs.Math.Nat.{ℕ_set}
+use Rattle.fmt_fields.specs.Layout.{format_of}
 use Rattle.integral.specs.Directed.{goes_away}
-use Rattle.integral.proofs.Directions.{cut_in_words}
+use Rattle.integral.proofs.Directions.{cut_wrapped}
 use Rattle.integral.proofs.directed.cut_by.Goals as goal
 
 pub returns : goal.returns
 returns c =
-    let d = suc c.args.mask in
-    let r = c.wrapping_sub_u64.result in
-    let g = goes_away (format c.args.frac c.args.expo) c.args.up c.args.x in
+    let a = c.args in
+    let d = suc a.mask.bits in
     let e = c.away_word-away.ensures in
-    cut_in_words g c.args.x c.args.mask r (search rules) (search rules) c.wrapping_sub_u64.type_inv c.requires.2
-    (ap (λ n. (r + n / d * d) % 2 ^ 64) (sym e)
-    ∙ ap (λ n. (r + n) % 2 ^ 64) (sym c.clear_under-2.ensures)
-    ∙ c.wrapping_sub_u64.ensures.value
-    ∙ c.clear_under.ensures
-    ∙ ap (λ n. n / d * d) (c.wrapping_add_u64-less.ensures.value ∙ ap (λ n. (c.args.x + n) % 2 ^ 64) e))
+    ∥∥₁_elim a.mask.last (ℕ_set _ _)
+    (λ m. cut_wrapped (goes_away (format_of a.fmt) a.up a.x) a.x a.mask.bits _ _ c.ranges.x.fits m
+    (c.clear.ensures ∙ ap (λ n. (a.x + n) % 2 ^ 64 / d * d) e)
+    (c.clear-2.ensures ∙ ap (λ n. n / d * d) e))

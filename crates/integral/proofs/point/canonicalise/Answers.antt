@@ -5,8 +5,9 @@ use Rattle.integral.proofs.point.canonicalise.Goals as goal
 
 pub returns-then-shift_sign_out-inf : goal.returns-then-shift_sign_out-inf
 returns-then-shift_sign_out-inf c =
-    c.nan-one.ensures ∙ sym (past_is_nan c.requires c.args.x c.infinity.result c.shift_sign_out-inf.result c.infinity.ensures c.shift_sign_out-inf.ensures (omega (arith, c.shift_sign_out.ensures)))
+    c.nan-one.ensures
+    ∙ sym (past_is_nan c.args.fmt.fits c.args.x c.infinity.result c.shift_sign_out-inf.result c.infinity.ensures c.shift_sign_out-inf.ensures (omega (arith, c.shift_sign_out.ensures)))
 
 pub returns : goal.returns
 returns c =
-    sym (rest_stays c.requires c.args.x c.infinity.result c.shift_sign_out-inf.result c.infinity.ensures c.shift_sign_out-inf.ensures (omega (arith, c.shift_sign_out.ensures)))
+    sym (rest_stays c.args.fmt.fits c.args.x c.infinity.result c.shift_sign_out-inf.result c.infinity.ensures c.shift_sign_out-inf.ensures (omega (arith, c.shift_sign_out.ensures)))

@@ -3,4 +3,4 @@ use Rattle.integral.proofs.Choices.{sign_out}
 use Rattle.integral.proofs.point.shift_sign_out.Goals as goal
 
 pub returns : goal.returns
-returns c = sign_out c.requires c.args.x
+returns c = sign_out c.args.fmt.fits c.args.x

@@ -1,14 +1,11 @@
--- The three cases are the definition's. Assumes nothing.
-use Rattle.std.proofs.Common.{◌+◌, ◌-◌, ap, ◌∙◌, arith, pow_pos}
-use Rattle.fmt_fields.specs.Width.{format}
-use Rattle.integral.specs.Point.{behind_of, by_point}
+-- The choice is that of the definition, which is a mask (Choices). Assumes nothing.
+use Rattle.std.proofs.Common.{◌≡◌, sym, subst}
+use Rattle.fmt_fields.specs.Layout.{format_of}
+use Rattle.integral.specs.Point.{Mask, tail_of}
+use Rattle.integral.proofs.Choices.{tail_is}
 use Rattle.integral.proofs.point.tail_mask.Goals as goal
 
-pub overflow_sub-all : goal.overflow_sub-all
-overflow_sub-all c = let s = c.args in omega (arith, c.pow-all.ensures, pow_pos (s.frac + s.expo))
-
-pub returns : goal.returns
-returns c =
-    let n = c.exponent_of-n in
-    let s = c.args in
-    c.choose_by_point.ensures ∙ (λ i. by_point (format s.frac s.expo) s.x (c.pow-all.ensures i - 1) ((c.fraction_mask.ensures ∙ ap (behind_of s.frac) n.ensures) i) 0)
+pub invariant_of-result : goal.invariant_of-result
+invariant_of-result c =
+    let e : c.choose_by_point.result ≡ tail_of (format_of c.args.fmt) c.args.x = cc in
+    record { last = ∣ subst Mask (sym e) (tail_is c.args.fmt.fits c.args.x).mask ∣₁ }

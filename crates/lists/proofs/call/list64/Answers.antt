@@ -1,21 +1,26 @@
--- `lists::call::list64` meets its contract: the refusal decides the output (Numbers). Assumes nothing.
-use mathlib.Core.Path.{refl}
-use native.Mathlib.Omega.{arith}
+-- The refusal decides the answer and the output (Numbers). Assumes nothing.
+use Rattle.std.proofs.Common.{refl, ◌∙◌}
+use Rattle.std.proofs.lemmas.Result.{err_from_is_err_and}
 use Rattle.ieee.specs.Format.{b64}
-use Rattle.lists.proofs.Numbers.{accepted_alike, refused_leaves, done_fills}
+use Rattle.lists.proofs.Numbers.{refusal_some, accepted_alike, refused_leaves, done_fills}
 use Rattle.lists.proofs.call.list64.Goals as goal
 
-pub returns-then-refusal-gt0 : goal.returns-then-refusal-gt0
-returns-then-refusal-gt0 c =
-    let a = c.args in
-    refused_leaves b64 _ _ _ (c.list_refusal-refusal.ensures a.xs.now a.ys.now refl refl) (omega arith)
+pub returns-in_err-list_refusal-clause-answer : goal.returns-in_err-list_refusal-clause-answer
+returns-in_err-list_refusal-clause-answer c =
+    let p = err_from_is_err_and c.from_residual.result c.from_residual.ensures.1 in
+    rw (p.1, p.2) (refused_leaves b64 c.args.op c.args.xs.now c.args.ys.now (c.in_err-list_refusal.ensures c.args.xs.now c.args.ys.now refl refl) (refusal_some c.in_err-list_refusal.field-0.0)).0
+
+pub returns-in_err-list_refusal-clause-output : goal.returns-in_err-list_refusal-clause-output
+returns-in_err-list_refusal-clause-output c =
+    (refused_leaves b64 c.args.op c.args.xs.now c.args.ys.now (c.in_err-list_refusal.ensures c.args.xs.now c.args.ys.now refl refl) (refusal_some c.in_err-list_refusal.field-0.0)).1
 
 pub fill64-requires : goal.fill64-requires
-fill64-requires c =
-    let a = c.args in
-    accepted_alike b64 a.op a.xs.now a.ys.now (omega (arith, c.list_refusal-refusal.ensures a.xs.now a.ys.now refl refl))
+fill64-requires c = accepted_alike b64 c.args.op c.args.xs.now c.args.ys.now (c.in_ok-list_refusal.ensures c.args.xs.now c.args.ys.now refl refl)
 
-pub returns : goal.returns
-returns c =
-    let a = c.args in
-    done_fills b64 _ _ _ (omega (arith, c.list_refusal-refusal.ensures a.xs.now a.ys.now refl refl)) c.fill64.ensures
+pub returns-clause-answer : goal.returns-clause-answer
+returns-clause-answer c = (done_fills b64 c.args.op c.args.xs.now c.args.ys.now (c.in_ok-list_refusal.ensures c.args.xs.now c.args.ys.now refl refl)).0
+
+pub returns-clause-output : goal.returns-clause-output
+returns-clause-output c =
+    c.fill64.ensures
+    ∙ (done_fills b64 c.args.op c.args.xs.now c.args.ys.now (c.in_ok-list_refusal.ensures c.args.xs.now c.args.ys.now refl refl)).1

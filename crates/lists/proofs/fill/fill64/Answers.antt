@@ -1,25 +1,27 @@
-use mathlib.Core.Path.{◌≡◌, refl, ap, ◌∙◌}
-use Prim.Native.Nat.{◌-◌}
-use native.Mathlib.Omega.{arith}
-use lib.ListN.{length, length-set}
+-- Each operation by its number, at every place (Operations, Filling). Assumes nothing.
+use Rattle.std.proofs.Common.{sym, ap, ◌∙◌, arith}
 use Rattle.ieee.specs.Format.{b64}
 use Rattle.ieee.specs.Lists.{operation}
-use Rattle.lists.proofs.Filling.{filled, none_filled, one_filled, all_filled}
+use Rattle.lists.specs.Operations.{operation_number}
+use Rattle.lists.proofs.Filling.{each_filled, all_left}
+use Rattle.lists.proofs.Operations.{one_is_sqrt, two_is_floor, three_is_trunc, unknown_leave}
 use Rattle.lists.proofs.fill.fill64.Goals as goal
 
-pub loop-i-init : goal.loop-i-init
-loop-i-init c = let args = c.args in (omega arith, refl, none_filled (operation b64 args.op) args.xs.now args.ys.now)
+pub returns-in-Ok-Sqrt : goal.returns-in-Ok-Sqrt
+returns-in-Ok-Sqrt c =
+    each_filled (operation b64 c.args.op) c.args.xs.now c.fill.new.ys (omega arith)
+    (λ k h. c.fill.ensures k (omega arith) ∙ one_is_sqrt b64 c.args.op _ (sym c.in-Ok-Sqrt.ensures ∙ ap operation_number c.in-Ok-Sqrt.field-0-is))
 
-pub loop-i-preserved : goal.loop-i-preserved
-loop-i-preserved c =
-    let args = c.args in (
-      omega arith,
-      simp length-set (omega arith),
-      one_filled (operation b64 args.op) args.xs.now args.ys.now c.loop-i.ys c.loop-i.i c.apply64.result (omega arith) (omega arith) c.apply64.ensures c.loop-i.invariant.2,
-    )
+pub returns-in-Ok-Floor : goal.returns-in-Ok-Floor
+returns-in-Ok-Floor c =
+    each_filled (operation b64 c.args.op) c.args.xs.now c.fill-in-Ok-Floor.new.ys (omega arith)
+    (λ k h. c.fill-in-Ok-Floor.ensures k (omega arith) ∙ two_is_floor b64 c.args.op _ (sym c.in-Ok-Floor.ensures ∙ ap operation_number c.in-Ok-Floor.field-0-is))
 
-pub returns : goal.returns
-returns c =
-    let args = c.args in
-    let e : c.loop-i.i ≡ length args.xs.now = omega arith in
-    c.loop-i.invariant.2 ∙ ap (filled (operation b64 args.op) args.xs.now args.ys.now) e ∙ all_filled (operation b64 args.op) args.xs.now args.ys.now (omega arith)
+pub returns-in-Ok-Trunc : goal.returns-in-Ok-Trunc
+returns-in-Ok-Trunc c =
+    each_filled (operation b64 c.args.op) c.args.xs.now c.fill-in-Ok-Trunc.new.ys (omega arith)
+    (λ k h. c.fill-in-Ok-Trunc.ensures k (omega arith) ∙ three_is_trunc b64 c.args.op _ (sym c.in-Ok-Trunc.ensures ∙ ap operation_number c.in-Ok-Trunc.field-0-is))
+
+pub returns-in-Err : goal.returns-in-Err
+returns-in-Err c =
+    c.copy_from_slice.ensures.after ∙ all_left (operation b64 c.args.op) (λ x. unknown_leave b64 c.args.op x c.in-Err.ensures.1) c.args.xs.now

@@ -8,4 +8,4 @@ pub returns : goal.returns
 returns c =
     let s = c.args in
     let k = c.shr-kept in
-    stuck_told_wide (2 ^ 63) (value s.v) s.k k.result.wide.hi k.result.wide.lo _ _ k.ensures.0 k.ensures.1 c.set_sticky.ensures
+    stuck_told_wide (2 ^ 63) (value s.v) s.k k.result.value.hi k.result.value.lo _ _ k.ensures.0 k.ensures.1 c.set_sticky.ensures

@@ -1,28 +1,17 @@
-use mathlib.Core.Path.{refl, ◌∙◌}
-use mathlib.Core.List.{[], ◌∷◌}
-use Prim.Native.Nat.{◌-◌}
-use native.Mathlib.Omega.{arith}
-use Rattle.text_lines.proofs.Scanning.{byte_is, byte_is_not, offset_here, offset_on, offset_end}
+-- `text_lines::scan::find` meets its contract: the offset in the rest counts from its start. Assumes nothing.
+use Rattle.std.proofs.Common.{arith}
+use Rattle.text_lines.proofs.Scanning.{byte_found, byte_not_found}
 use Rattle.text_lines.proofs.scan.find.Goals as goal
 
-pub loop-i-init : goal.loop-i-init
-loop-i-init c = refl
+pub overflow_add-result : goal.overflow_add-result
+overflow_add-result c =
+    let found = byte_found c.args.b c.args.s.now c.args.from c.part.result.now c.part.ensures c.in-Some.n c.in-Some.ensures in record { fits = omega arith }
 
-pub loop-i-preserved : goal.loop-i-preserved
-loop-i-preserved c =
-    let args = c.args in
-    let i = c.loop-i.i in
-    let s = args.s.now in
-    offset_on (args.b ∷ []) s i (omega arith) (byte_is_not args.b s i (omega arith) c.if-s-i.false) ∙ c.loop-i.invariant
+pub returns-in-Some-clause-value : goal.returns-in-Some-clause-value
+returns-in-Some-clause-value c = (byte_found c.args.b c.args.s.now c.args.from c.part.result.now c.part.ensures c.in-Some.n c.in-Some.ensures).0
 
-pub returns-then-s-i-clause-value : goal.returns-then-s-i-clause-value
-returns-then-s-i-clause-value c =
-    let args = c.args in
-    let i = c.loop-i.i in
-    let s = args.s.now in
-    offset_here (args.b ∷ []) s i (omega arith) (byte_is args.b s i (omega arith) c.if-s-i.true) ∙ c.loop-i.invariant
+pub returns-in-Some-clause-within : goal.returns-in-Some-clause-within
+returns-in-Some-clause-within c = omega (arith, byte_found c.args.b c.args.s.now c.args.from c.part.result.now c.part.ensures c.in-Some.n c.in-Some.ensures)
 
-pub returns-clause-value : goal.returns-clause-value
-returns-clause-value c =
-    let args = c.args in
-    offset_end (args.b ∷ []) args.s.now c.loop-i.i (omega arith) ∙ c.loop-i.invariant
+pub returns-in-None-clause-value : goal.returns-in-None-clause-value
+returns-in-None-clause-value c = byte_not_found c.args.b c.args.s.now c.args.from c.part.result.now c.part.ensures c.in-None.ensures

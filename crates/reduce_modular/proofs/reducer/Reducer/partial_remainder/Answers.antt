@@ -7,9 +7,9 @@ use Rattle.reduce_modular.proofs.reducer.Reducer.partial_remainder.Goals as goal
 pub returns : goal.returns
 returns c =
     let p = c.args.self.product in
-    c.mul_hi.ensures ∙ held_by_upper (omega arith) c.requires p.hi p.lo refl c.struct_known-1.given.1.1.0.1.0.fits
+    c.mul_hi.ensures ∙ held_by_upper (omega arith) c.args.self.reduces p.hi p.lo refl (omega arith)
 
 pub overflow_add-self : goal.overflow_add-self
 overflow_add-self c =
     let p = c.args.self.product in
-    record { fits = upper_leaves_room (omega arith) c.requires p.hi p.lo refl }
+    record { fits = upper_leaves_room (omega arith) c.args.self.reduces p.hi p.lo refl }

@@ -1,8 +1,0 @@
--- The record of the answer that the call gave; a signed n passes through its word unchanged. Assumes nothing.
-use mathlib.Core.Path.{◌∙◌}
-use mir.Facts.{to_z-of_z}
-use Rattle.flagged.proofs.rounded.scalbn64_rounded.Goals as goal
-
-pub returns : goal.returns
-returns c =
-    c.record64.ensures ∙ (simp (to_z-of_z, c.ranges.n) at c.scalbn64_rounded.ensures)

@@ -1,6 +1,0 @@
--- The record of the answer that the call gave. Assumes nothing.
-use mathlib.Core.Path.{◌∙◌}
-use Rattle.flagged.proofs.rounded.sqrt64_rounded.Goals as goal
-
-pub returns : goal.returns
-returns c = c.record64.ensures ∙ c.sqrt64_rounded.ensures

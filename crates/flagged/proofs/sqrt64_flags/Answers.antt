@@ -1,6 +1,0 @@
--- The record of the flags that the call gave. Assumes nothing.
-use mathlib.Core.Path.{◌∙◌}
-use Rattle.flagged.proofs.sqrt64_flags.Goals as goal
-
-pub returns : goal.returns
-returns c = let (v, f) = c.sqrt64_flags-a.ensures in (v, c.record_of.ensures ∙ f)

@@ -1,9 +1,0 @@
--- The remainder is the definition's, and its divisor is a power of two, so it is not 0. Assumes nothing.
-use Rattle.std.proofs.Common.{◌+◌, ◌%◌, ap, arith, pow_pos}
-use Rattle.fmt_fields.proofs.pattern.magnitude_of.Goals as goal
-
-pub returns : goal.returns
-returns c = ap (λ t. c.args.x % t) c.pow.ensures
-
-pub nonzero_rem-result : goal.nonzero_rem-result
-nonzero_rem-result c = omega (arith, c.pow.ensures, pow_pos (c.args.frac + c.args.expo))

@@ -1,7 +1,0 @@
--- The word of the flags that the call gave. Assumes nothing.
-use mathlib.Core.Path.{ap, ◌∙◌}
-use Rattle.ieee.specs.Flags.{flag_word}
-use Rattle.paskerotim.proofs.pk_floor32_flags.Goals as goal
-
-pub returns : goal.returns
-returns c = let (v, f) = c.floor32_flags-a.ensures in (v, c.word_of.ensures ∙ ap flag_word f)
