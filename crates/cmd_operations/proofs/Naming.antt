@@ -1,11 +1,89 @@
--- A search through a table of names finds the row of a name. Assumes nothing.
-use Rattle.std.proofs.Common.{◌≡◌, ℕ, suc, ◌+◌, ◌<◌, ◌≤◌, Bool, true, false, cond, ltb, eqb, ◌&&◌, List, [], ◌∷◌, length, map, refl, sym, ap, ◌∙◌, arith, Option, Some, None}
+-- Laws of the same bytes and of the end of a name, and a search through a table of names finds the row of a name. Assumes nothing.
+use Rattle.std.proofs.Common.{◌≡◌, ℕ, suc, ◌+◌, ◌-◌, ◌<◌, ◌≤◌, Bool, true, false, cond, not, ltb, eqb, ◌&&◌, T, List, [], ◌∷◌, ◌++◌, length, take, drop, map, refl, sym, ap, ◌∙◌, arith, eqb→eq, length-append, take_at, drop_at, le-leb, Option, Some, None}
 use Rattle.std.specs.Prelude.{option_map}
 use Rattle.std.specs.Cmp.Lexicographic.{pointwise}
 use Rattle.std.specs.List.{position_or_len, find, enumerate_from}
+use lib.Dec.{eqb_refl}
 use borrow.Author.Tests.{ltb-true, ltb-false}
+use Rattle.text_lines.specs.Offsets.{starts, ahead, offset_of, part_of}
 use Rattle.cmd_operations.specs.declared.table.Row.{Row}
-use Rattle.cmd_operations.specs.Naming.{Named, same, row_at, row_in}
+use Rattle.cmd_operations.specs.Naming.{Named, without, same, row_at, row_in}
+
+-- a search finds no offset before its start
+pub found_after : (p s : List ℕ) (from : ℕ) → from ≤ length s → from ≤ offset_of p s from
+unfolding offset_of
+found_after p s from h = omega arith
+
+-- ---- both parts of a test
+
+pub and_first : (a b : Bool) → T (a && b) → T a
+and_first true b h = tt
+and_first false b h = h
+
+pub and_second : (a b : Bool) → T (a && b) → T b
+and_second true b h = h
+and_second false b h = absurd h
+
+is_true : (b : Bool) → T b → b ≡ true
+is_true true h = refl
+is_true false h = absurd h
+
+-- ---- the same bytes: the test is true of equal lists, and false of others
+
+same_refl : (s : List ℕ) → same s s ≡ true
+unfolding same
+same_refl [] = refl
+same_refl (a ∷ s) = rw (is_true (eqb a a) (eqb_refl a)) (same_refl s)
+
+pub same_is : (s t : List ℕ) → s ≡ t → same s t ≡ true
+same_is s t e = rw (← e) (same_refl s)
+
+tail_same : (a b : ℕ) (s t : List ℕ) → T (eqb a b) → s ≡ t → ◌≡◌ {A = List ℕ} (a ∷ s) (b ∷ t)
+tail_same a b s t h e = rw (eqb→eq a b h, e)
+
+same_eq : (s t : List ℕ) → T (same s t) → s ≡ t
+unfolding same
+same_eq [] [] h = refl
+same_eq [] (b ∷ t) h = absurd h
+same_eq (a ∷ s) [] h = absurd h
+same_eq (a ∷ s) (b ∷ t) h = tail_same a b s t (and_first (eqb a b) (same s t) h) (same_eq s t (and_second (eqb a b) (same s t) h))
+
+pub same_is_not : (s t : List ℕ) → (s ≡ t → ⊥) → same s t ≡ false
+same_is_not s t never = not_true (same s t) (λ h. never (same_eq s t h))
+  where
+    not_true : (b : Bool) → (T b → ⊥) → b ≡ false
+    not_true true f = absurd (f tt)
+    not_true false f = refl
+
+-- ---- the end of a name: the first byte b after a part without it, and the part that stands there
+
+ahead_step : (b c : ℕ) (s : List ℕ) (t : Bool) → T (not t) → t ≡ eqb c b → ahead (b ∷ []) (c ∷ s) ≡ suc (ahead (b ∷ []) s)
+unfolding ahead starts
+ahead_step b c s false h e = rw (← e)
+ahead_step b c s true h e = absurd h
+
+ahead_of : (b : ℕ) (u rest : List ℕ) → T (without b u) → ahead (b ∷ []) (u ++ (b ∷ rest)) ≡ length u
+unfolding without ahead starts
+ahead_of b [] rest h = rw (is_true (eqb b b) (eqb_refl b))
+ahead_of b (c ∷ u) rest h =
+    ahead_step b c (u ++ (b ∷ rest)) (eqb c b) (and_first (not (eqb c b)) (without b u) h) refl
+    ∙ ap suc (ahead_of b u rest (and_second (not (eqb c b)) (without b u) h))
+
+module _ (b : ℕ) (before u rest : List ℕ) (free : T (without b u)) where
+  pub ends_at : offset_of (b ∷ []) (before ++ (u ++ (b ∷ rest))) (length before) ≡ length before + length u
+  unfolding offset_of
+  ends_at =
+      rw (drop_at before (u ++ (b ∷ rest)) (length before) refl, ahead_of b u rest free)
+      (simp length-append (omega arith))
+
+  pub stands_there : part_of (before ++ (u ++ (b ∷ rest))) (length before) (length before + length u) ≡ u
+  unfolding part_of
+  stands_there =
+      let room : length before + length u ≤ length (before ++ (u ++ (b ∷ rest))) = simp length-append (omega arith) in
+      let most : length before + length u - length before ≡ length u = omega arith in
+      rw (le-leb _ _ room, most, drop_at before (u ++ (b ∷ rest)) (length before) refl) (take_at u (b ∷ rest) (length u) refl)
+
+-- ---- the search
 
 pub same_pointwise : (s t : List ℕ) → pointwise eqb s t ≡ same s t
 unfolding same

@@ -1,5 +1,5 @@
 -- Tables of names, and the row of a name in one. Assumes nothing.
-use Rattle.std.specs.Prelude.{ℕ, ◌+◌, Bool, true, false, cond, ◌&&◌, List, [], ◌∷◌, ◌==◌, Option, Some, None}
+use Rattle.std.specs.Prelude.{ℕ, ◌+◌, Bool, true, false, cond, not, ◌&&◌, List, [], ◌∷◌, ◌==◌, Option, Some, None}
 use Prim.Native.Char.{code}
 use Prim.Native.String.{String, [] as ε, ◌∷◌ as ◌▹◌}
 use Rattle.cmd_operations.specs.declared.table.Kind.{Kind}
@@ -19,6 +19,11 @@ pub record Named : Type 0 where
 -- a row of the code's table
 abbrev pub as_named : Operation → Named
 as_named o = record { name = o.name.now; operands = o.operands; answers = o.answers }
+
+-- b is none of the bytes
+unfoldable pub without : ℕ → List ℕ → Bool
+without b [] = true
+without b (c ∷ s) = not (c == b) && without b s
 
 unfoldable pub same : List ℕ → List ℕ → Bool
 same [] [] = true

@@ -27,7 +27,7 @@ pub enum State {
     Broken,
 }
 
-#[derive(Drop)]
+#[derive(Clone, Copy)]
 pub struct Streams {
     stdin: Stdin,
     stdout: Stdout,
@@ -65,7 +65,8 @@ impl Streams {
 
     // Writes out the pending output.
     pub fn flush(&mut self)
-        ensures { self.new.output.end ≡ 0 }
+        ensures empty { self.new.output.end ≡ 0 }
+        ensures bytes { self.new.output.bytes ≡ self.old.output.bytes }
     {
         let mut stdout = self.stdout;
         let is_lost = self.state != State::Broken
@@ -79,7 +80,8 @@ impl Streams {
 
     // Makes room for `more` bytes of output.
     pub fn reserve(&mut self, more: usize)
-        ensures { more ≤ 65536 → self.new.output.end + more ≤ 65536 }
+        ensures room { more ≤ 65536 → self.new.output.end + more ≤ 65536 }
+        ensures bytes { self.new.output.bytes ≡ self.old.output.bytes }
     {
         if !self.output.has_room(more) {
             self.flush();
@@ -88,7 +90,9 @@ impl Streams {
 
     // Reads once, unless the input has ended or anything failed. The number of bytes: 0 where the input ended, as std's `read` has it, or could not be read; `state`
     // tells which.
-    pub fn read(&mut self, input: &mut [u8; 65536]) -> usize {
+    pub fn read(&mut self, input: &mut [u8; 65536]) -> usize
+        ensures { self.new.output ≡ self.old.output }
+    {
         if self.state != State::Open {
             return 0;
         }
@@ -108,7 +112,9 @@ impl Streams {
     }
 
     // Writes out the rest, and then, unless anything failed, the number of bad lines.
-    pub fn close(&mut self, rt: &impl Files, bad: u64) {
+    pub fn close(&mut self, rt: &impl Files, bad: u64)
+        ensures { self.new.output.bytes ≡ self.old.output.bytes }
+    {
         self.flush();
         if self.state != State::Broken {
             // Who waits for the number sees that it did not come.

@@ -8,7 +8,7 @@ ghost use Rattle.text_numbers.specs.Written.{signed_digits, Fewest};
 use std::fmt;
 
 // The buffer, and the offset after the bytes that are filled. What does not fit is left out. An array, as the programs have no heap.
-#[derive(Drop)]
+#[derive(Clone, Copy)]
 pub struct Output<const N: usize> {
     pub bytes: [u8; N],
     pub end: usize,

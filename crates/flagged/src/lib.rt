@@ -11,6 +11,7 @@ ghost use Rattle.flagged.specs.Record.{record_of};
 
 use fma::fused::Fused;
 use fmt_fields::env::{Flagged, Raised};
+use fmt_fields::weight::weigh;
 use fmt_fields::width::Width;
 use sqrt_number::rooted::Rooted;
 
@@ -24,6 +25,21 @@ pub struct Flags {
     pub overflow: bool,
     pub underflow: bool,
     pub inexact: bool,
+}
+
+impl Flags {
+    ghost use Rattle.ieee.specs.Flags.{flag_word};
+
+    // The flags as one number, as C has it.
+    pub fn word(self) -> u32
+        ensures { result ≡ flag_word (record_of self) }
+    {
+        weigh(self.invalid, 1)
+            + weigh(self.division_by_zero, 4)
+            + weigh(self.overflow, 8)
+            + weigh(self.underflow, 16)
+            + weigh(self.inexact, 32)
+    }
 }
 
 impl From<Raised> for Flags {

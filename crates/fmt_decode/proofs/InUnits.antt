@@ -1,8 +1,8 @@
 -- A significand and an exponent as whole smallest units, by the exponent's sign; a number with fewer bits than the fraction is its own magnitude. Assumes nothing.
-use Rattle.std.proofs.Common.{◌≡◌, ℕ, suc, ◌+◌, ◌-◌, ◌*◌, ◌/◌, ◌^◌, ◌<◌, ◌≤◌, true, ℤ, pos, negsuc, ◌+ℤ◌, ◌-ℤ◌, nat_abs, sym, refl, ap, ◌∙◌, arith, pow_pos}
+use Rattle.std.proofs.Common.{◌≡◌, ℕ, suc, ◌+◌, ◌-◌, ◌*◌, ◌/◌, ◌^◌, ◌<◌, ◌≤◌, true, false, ℤ, pos, negsuc, ◌+ℤ◌, ◌-ℤ◌, nat_abs, sym, refl, ap, ◌∙◌, arith, pow_pos}
 use lib.Pow.{shr_le, shl-shr}
 use lib.Signed.{lt_z}
-use Rattle.algebra.proofs.Integers.{add_z, sub_z, eq_z, lt_z_true}
+use Rattle.algebra.proofs.Integers.{abs_z, add_z, sub_z, eq_z, lt_z_true, lt_z_false}
 use Rattle.algebra.proofs.Products.{order, times, mul_eq_cancel}
 use Rattle.algebra.proofs.Powers.{pow_diff}
 use Rattle.ieee.specs.Format.{Format, low, units, inf}
@@ -10,6 +10,11 @@ use Rattle.ieee.specs.Round.{exactly}
 use Rattle.fmt_decode.proofs.Packs.{exactly_packed}
 use Rattle.fmt_decode.specs.Significand.{units_exp, exponent, shifted, units_at}
 use Rattle.fmt_decode.proofs.Significands.{exponent_is}
+
+-- a shift by an exponent that is not negative is a product, and by a negative one a quotient
+pub shifted_up : (s : ℕ) (z : ℤ) → lt_z z (pos 0) ≡ false → s * 2 ^ nat_abs z ≡ shifted s z
+shifted_up s (pos n) t = ap (λ k. s * 2 ^ k) (omega (arith, abs_z (pos n)))
+shifted_up s (negsuc n) t = let l = lt_z_false (negsuc n) (pos 0) t in absurd (omega arith)
 
 pub shifted_down : (s : ℕ) (z : ℤ) → lt_z z (pos 0) ≡ true → s / 2 ^ nat_abs z ≡ shifted s z
 shifted_down s (pos n) t = let l = lt_z_true (pos n) (pos 0) t in absurd (omega arith)

@@ -13,6 +13,26 @@ pub enum Attribute {
     Away,
 }
 
+impl Attribute {
+    ghost use Rattle.std.specs.Prelude.{◌<◌};
+    ghost use Rattle.fmt_fields.specs.Raised.{attribute_of};
+    ghost use Rattle.fmt_fields.specs.Numbered.{Names};
+
+    // The attribute of a number that is known to be one's.
+    pub fn of_number(number: u32) -> Attribute
+        requires { number < 5 }
+        ensures { Names number (attribute_of result) }
+    {
+        match number {
+            0 => Attribute::Even,
+            1 => Attribute::Zero,
+            2 => Attribute::Down,
+            3 => Attribute::Up,
+            _ => Attribute::Away,
+        }
+    }
+}
+
 impl TryFrom<u32> for Attribute {
     type Error = Refusal;
 

@@ -32,9 +32,13 @@ module _ (f : Format) (a : Attribute) (s : List ℕ) where
   pub too_long : 64 < length s → refused 6 ≡ read_in f a s
   too_long l = sym (read_too_long f a s l)
 
+  -- a text that is no numeral is refused with 7
+  pub is_outside : length s ≤ 64 → numeral_of s ≡ None → refused 7 ≡ read_in f a s
+  is_outside l e = sym (read_outside f a s l e)
+
   read_by_lem : length s ≤ 64 → (p : Option Numeral) → numeral_of s ≡ p → answer_of (λ (x : ℕ). x) (ok_or (option_map (value_in f a) p) NoNumeral) ≡ read_in f a s
   read_by_lem l (Some n) e = sym (read_done f a s n l e)
-  read_by_lem l None e = sym (read_outside f a s l e)
+  read_by_lem l None e = is_outside l e
 
   pub is_read : length s ≤ 64 → answer_of (λ (x : ℕ). x) (ok_or (option_map (value_in f a) (numeral_of s)) NoNumeral) ≡ read_in f a s
   is_read l = read_by_lem l (numeral_of s) refl
@@ -70,7 +74,7 @@ names_number n a h = go n (ap (λ (r : Rounded). r.number) (h call))
     go (suc (suc (suc (suc (suc n))))) e = absurd (omega (arith, e, attribute_small a))
 
 module _ (f : Format) (n : ℕ) (s : List ℕ) where
-  under_number_lem : (a : Attribute) → Names n a → read_in f a s ≡ read_rounded f n s
+  pub under_number_lem : (a : Attribute) → Names n a → read_in f a s ≡ read_rounded f n s
   under_number_lem a h = sym (by_number f n s a (names_number n a h))
 
   pub unknown : 5 ≤ n → refused 10 ≡ read_rounded f n s

@@ -29,13 +29,13 @@ sixteenths (suc n) =
     let step : 2 ^ (4 * suc n) ≡ 2 ^ (4 * n) * 2 ^ 4 = ap (λ (m : ℕ). 2 ^ m) sum ∙ pow-add 2 (4 * n) 4 in
     omega (arith, pow-suc 16 n, sixteenths n, step)
 
-power_small : (e : ℤ) (x k : ℕ) (z : ℤ) → x ≤ 64 → k ≤ 64 → mag e < 10 ^ 5 → z ≡ e +ℤ pos (4 * x) -ℤ pos (4 * k + 1) → mag z < 2 ^ 18
+power_small : (e : ℤ) (x k : ℕ) (z : ℤ) → x ≤ 64 → k ≤ 64 → mag e < 10 ^ 5 → z ≡ e +ℤ pos (4 * x) -ℤ pos (4 * k + 1) → mag z < 2 ^ 17
 power_small e x k z l m small w =
     let a = add_z e (pos (4 * x)) in
     let b = sub_z (e +ℤ pos (4 * x)) (pos (4 * k + 1)) in
     let (p, q) = mag_z_fact e small in
     let same = eq_z_fact w in
-    mag_z z (2 ^ 18) (omega arith) (omega arith)
+    mag_z z (2 ^ 17) (omega arith) (omega arith)
 
 -- the digits held and the exponent give the number
 pub number_made : (neg : Bool) (d k : ℕ) {c : Lead} (e : ℤ) (r : Number) → Holds d c → c.extra ≤ 64 → k ≤ 64 → mag e < 10 ^ 5 → r.sig ≡ marked c.sig c.sticky

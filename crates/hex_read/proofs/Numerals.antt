@@ -3,6 +3,7 @@ use Prim.Native.Nat.{ℕ, ◌-◌, ◌^◌, ◌≤◌, ◌<◌}
 use mathlib.Core.Path.{◌≡◌, refl, sym, ap}
 use mathlib.Core.Bool.{Bool, ◌||◌}
 use mathlib.Core.List.{List}
+use native.Mathlib.Omega.{arith}
 use lib.Dec.{eqb}
 use mir.Val.{bool_byte}
 use Rattle.std.specs.Int.Signed.{mag}
@@ -56,7 +57,7 @@ module _ (f : Format) (a : Attribute) (s : List ℕ) (b start : ℕ) (is : b ≡
   word_found h = rw part (word_by (unsigned_of (eqb b 45) (unsigned_part s)) refl (rw part at h))
 
 pub number_small : (neg : Bool) (p : Option Numeral) (n : Number) → NumberAs neg p (Some n) → mag n.exp < 2 ^ 18
-number_small neg (Some (number s d k e)) n (_, h) = h.small
+number_small neg (Some (number s d k e)) n (_, h) = omega (arith, h.small)
 number_small neg (Some (infinity s)) n h = absurd h
 number_small neg (Some not_a_number) n h = absurd h
 number_small neg None n h = absurd (not_none h)

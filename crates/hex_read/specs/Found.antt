@@ -21,7 +21,7 @@ pub record Reduces (d k : ℕ) (e : ℤ) (r : Number) : Type 0 where
   -- a marked significand has enough bits for every format of at most 55 fraction bits
   pub enough : r.sig % 2 ≡ 1 → 2 ^ 57 ≤ r.sig
   pub power : r.exp ≡ e +ℤ pos dropped -ℤ pos (4 * k + 1)
-  pub small : mag r.exp < 2 ^ 18
+  pub small : mag r.exp < 2 ^ 17
 
 abbrev pub NumberAs : Bool → Option Numeral → Option Number → Type 0
 NumberAs neg (Some (number s d k e)) (Some r) = (s ≡ neg) × Reduces d k e r

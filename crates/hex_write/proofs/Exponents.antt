@@ -63,13 +63,13 @@ fewest_few n j l w = order j 5 (λ h. h) (λ h. absurd (past (le_split h)))
 
 -- ---- behind the sign
 module _ (e q : ℕ) where
-  exponent_above : (n j : ℕ) → n + (2 ^ (e - 1) - 1) ≡ q → n < 100000 → Fewest n j → ExponentOf e q false j n
+  pub exponent_above : (n j : ℕ) → n + (2 ^ (e - 1) - 1) ≡ q → n < 100000 → Fewest n j → ExponentOf e q false j n
   unfolding exponent_text
   exponent_above n j s l w =
       let z : pos q -ℤ pos (2 ^ (e - 1) - 1) ≡ pos n = eq_z (pos q -ℤ pos (2 ^ (e - 1) - 1)) (pos n) (omega (arith, sub_z (pos q) (pos (2 ^ (e - 1) - 1)))) in
       record { digits = ap (λ (d : List ℕ). 43 ∷ d) (decimal_digits 4 n j (fewest_few n j l w) w) ∙ ap exponent_text (sym z); few = fewest_few n j l w }
 
-  exponent_below : (n j : ℕ) → n + q ≡ 2 ^ (e - 1) - 1 → 0 < n → n < 100000 → Fewest n j → ExponentOf e q true j n
+  pub exponent_below : (n j : ℕ) → n + q ≡ 2 ^ (e - 1) - 1 → 0 < n → n < 100000 → Fewest n j → ExponentOf e q true j n
   unfolding exponent_text
   exponent_below zero j s p l w = absurd (omega arith)
   exponent_below (suc n) j s p l w =

@@ -19,6 +19,14 @@ pub fn put_flagged<W: Width>(a: Flagged<W, Raised>, flags: &mut u32) -> W
     a.value
 }
 
+// Zero, where there is no value.
+#[inline(always)]
+fn put_zero<W: Width>(value: &mut W)
+    ensures { W.pattern value.new ≡ 0 }
+{
+    *value = W::narrow(0);
+}
+
 #[inline(always)]
 pub fn put_rounded<W: Width>(
     answer: Result<Flagged<W, Raised>, Refusal>,
@@ -35,7 +43,7 @@ pub fn put_rounded<W: Width>(
             0
         }
         Err(refusal) => {
-            *value = W::narrow(0);
+            put_zero(value);
             *flags = 0;
             refusal.number()
         }
@@ -53,7 +61,7 @@ pub fn put_answer<W: Width>(answer: Result<W, Refusal>, value: &mut W) -> u32
             0
         }
         Err(refusal) => {
-            *value = W::narrow(0);
+            put_zero(value);
             refusal.number()
         }
     }

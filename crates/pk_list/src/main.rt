@@ -2,7 +2,7 @@
 // Then it writes the number of bad lines, as the verdict.
 //
 // The list call takes a piece at a time: the lines that one read completes, at most 8,192 of them. A line that is not a pattern keeps its place in
-// the piece, with its flaw beside it. The operation's number is read from descriptor 5 once there is something to answer, and passed on
+// the piece, with the mark of its flaw beside it. The operation's number is read from descriptor 5 once there is something to answer, and passed on
 // unchecked: the list call judges it.
 #![tactic(auto)]
 
@@ -16,6 +16,7 @@ use cmd_streams::Streams;
 use pieces::Piece;
 use place::read_place;
 use places::Places;
+use std::rt::{Stderr, Stdin, Stdout};
 use text_lines::Line;
 
 // How many lines are answered between two progress lines.
@@ -38,16 +39,17 @@ struct Program {
 }
 
 impl Program {
-    fn new(streams: Streams, op: u32) -> Self {
+    // Before anything is read, and with no operation yet. Made with its buffers in place: one that is moved in stands twice on the stack.
+    fn new(stdin: Stdin, stdout: Stdout, stderr: Stderr) -> Self {
         Program {
-            op,
+            op: 0,
             line: Line::new(),
             size: 0,
             places: Places::new(),
             pieces: 0,
             answered: 0,
             bad: 0,
-            streams,
+            streams: Streams::new(stdin, stdout, stderr),
         }
     }
 
@@ -129,16 +131,16 @@ impl Program {
 
 fn main(rt: HostRuntime) {
     let mut input = [0u8; 65536];
-    let mut streams = Streams::new(rt.stdin(), rt.stdout(), rt.stderr());
-    let first = streams.read(&mut input);
+    let mut program = Program::new(rt.stdin(), rt.stdout(), rt.stderr());
+    let first = program.streams.read(&mut input);
     if first == 0 {
-        streams.close(&rt, 0);
+        program.streams.close(&rt, 0);
         return;
     }
-    let Some(op) = streams.read_number(&rt) else {
+    let Some(op) = program.streams.read_number(&rt) else {
         return;
     };
-    let mut program = Program::new(streams, op);
+    program.op = op;
     program.run(&mut input, first);
     program.finish();
     program.streams.close(&rt, program.bad);

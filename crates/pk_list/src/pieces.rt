@@ -4,7 +4,7 @@ ghost use Rattle.ieee.specs.Format.{b64};
 ghost use Rattle.ieee.specs.Lists.{list_of};
 ghost use Rattle.fmt_fields.specs.Refused.{answer_of};
 
-use crate::place::{Refused, write_place};
+use crate::place::{Refused, marked, write_place};
 use crate::places::Places;
 use cmd_streams::Streams;
 use cmd_streams::output::Output;
@@ -50,12 +50,12 @@ pub fn answer_piece(streams: &mut Streams, op: u32, piece: Piece, places: &Place
     let n = places.filled;
     let mut ys = [0u64; 8192];
     let refusal = list_first(op, &places.patterns, &mut ys, n).err();
-    let flaws = &places.flaws[..n];
+    let marks = &places.marks[..n];
     let mut number = piece.before;
-    for (y, flaw) in ys.iter().zip(flaws) {
+    for (y, mark) in ys.iter().zip(marks) {
         number = number.wrapping_add(1);
         streams.reserve(ROOM);
-        write_place(&mut streams.output, number, *y, *flaw, refusal);
+        write_place(&mut streams.output, number, *y, marked(*mark), refusal);
         streams.output.write_bytes(b"\n");
     }
     match refusal {
@@ -63,7 +63,7 @@ pub fn answer_piece(streams: &mut Streams, op: u32, piece: Piece, places: &Place
             tell_refused(streams, piece, n as u64, refusal);
             n as u64
         }
-        None => flaws.iter().flatten().count() as u64,
+        None => marks.iter().filter(|mark| **mark > 0).count() as u64,
     }
 }
 

@@ -2,7 +2,7 @@
 ghost use Rattle.std.specs.Prelude.{◌≡◌, None};
 ghost use Rattle.text_numbers.specs.Digits.{digits_of};
 ghost use Rattle.text_numbers.specs.Placed.{Placed};
-ghost use Rattle.pk_list.specs.Placing.{ReadAs};
+ghost use Rattle.pk_list.specs.Placing.{ReadAs, mark_of};
 
 use cmd_operations::complaint::write_fault;
 use cmd_operations::table::Kind;
@@ -44,6 +44,39 @@ impl fmt::Display for Flaw {
 }
 
 impl Error for Flaw {}
+
+// The mark of a wrong length of no characters.
+const LENGTH: u64 = 6;
+
+// The mark of a flaw, one word in the place of an Option's three: the marks of a piece lie on the stack, as the programs have no heap.
+pub fn mark(flaw: Option<Flaw>) -> u64
+    ensures { result ≡ mark_of flaw }
+{
+    match flaw {
+        None => 0,
+        Some(Flaw::Empty) => 1,
+        Some(Flaw::Comment) => 2,
+        Some(Flaw::CarriageReturn) => 3,
+        Some(Flaw::Blank) => 4,
+        Some(Flaw::WrongDigit) => 5,
+        Some(Flaw::WrongLength(size)) => (size as u64).saturating_add(LENGTH),
+    }
+}
+
+// The flaw of a mark.
+pub fn marked(mark: u64) -> Option<Flaw>
+    ensures { mark_of result ≡ mark }
+{
+    match mark {
+        0 => None,
+        1 => Some(Flaw::Empty),
+        2 => Some(Flaw::Comment),
+        3 => Some(Flaw::CarriageReturn),
+        4 => Some(Flaw::Blank),
+        5 => Some(Flaw::WrongDigit),
+        _ => Some(Flaw::WrongLength((mark - LENGTH) as usize)),
+    }
+}
 
 // The flaw of a line that is not a pattern.
 fn flaw_of(s: &[u8], size: usize) -> Flaw {

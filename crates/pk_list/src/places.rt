@@ -1,8 +1,8 @@
-// The places of a piece: for each its pattern, and its flaw if it has one.
+// The places of a piece: for each its pattern, and the mark of its flaw if it has one.
 ghost use Rattle.std.specs.Prelude.{◌≡◌, ◌+◌, ◌<◌, ◌≤◌, ◌↔◌, IsTrue, slice_set};
-ghost use Rattle.pk_list.specs.Placing.{pattern_of, flaw_of};
+ghost use Rattle.pk_list.specs.Placing.{pattern_of, flaw_of, mark_of};
 
-use crate::place::Flaw;
+use crate::place::{Flaw, mark};
 
 // The most places of a piece.
 pub const PLACES: usize = 8192;
@@ -11,7 +11,7 @@ pub const PLACES: usize = 8192;
 #[derive(Drop)]
 pub struct Places {
     pub patterns: [u64; 8192],
-    pub flaws: [Option<Flaw>; 8192],
+    pub marks: [u64; 8192],
     pub filled: usize,
     ghost within: { filled ≤ 8192 },
 }
@@ -22,7 +22,7 @@ impl Places {
     {
         Places {
             patterns: [0; PLACES],
-            flaws: [None; PLACES],
+            marks: [0; PLACES],
             filled: 0,
         }
     }
@@ -37,12 +37,12 @@ impl Places {
     pub fn push(&mut self, place: Result<u64, Flaw>)
         requires { self.old.filled < 8192 }
         ensures patterns { self.new.patterns ≡ slice_set self.old.patterns self.old.filled (pattern_of place) }
-        ensures flaws { self.new.flaws ≡ slice_set self.old.flaws self.old.filled (flaw_of place) }
+        ensures marks { self.new.marks ≡ slice_set self.old.marks self.old.filled (mark_of (flaw_of place)) }
         ensures filled { self.new.filled ≡ self.old.filled + 1 }
     {
         let next = self.filled;
         self.patterns[next] = place.unwrap_or(0);
-        self.flaws[next] = place.err();
+        self.marks[next] = mark(place.err());
         self.filled = next + 1;
     }
 

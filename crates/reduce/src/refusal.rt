@@ -1,8 +1,8 @@
 // The refusals of the reduction.
-ghost use Rattle.std.specs.Prelude.{◌≡◌, ◌≤◌, MatchResult};
+ghost use Rattle.std.specs.Prelude.{◌≡◌, ◌≤◌};
 ghost use Rattle.ieee.specs.Reduction.{reduce_of};
 ghost use Rattle.ieee.specs.Refusal.{number_of};
-ghost use Rattle.fmt_fields.specs.Refused.{refusal_number};
+ghost use Rattle.fmt_fields.specs.Refused.{answer_of};
 ghost use Rattle.reduce.specs.Bits.{bits_of};
 
 use crate::words::bits_of;
@@ -14,7 +14,7 @@ use word_bits::pow;
 pub fn refusal_of(bits: u32, x: u64, e: u32, y: u64) -> Result<(), Refusal>
     requires least { 2 ≤ bits }
     requires most { bits ≤ 64 }
-    ensures { MatchResult result (λ _. 0 ≡ number_of (reduce_of bits x e y)) (λ r. refusal_number r ≡ number_of (reduce_of bits x e y)) }
+    ensures { number_of (answer_of (λ _. 0) result) ≡ number_of (reduce_of bits x e y) }
 {
     if y >= pow(bits - 2) {
         return Err(Refusal::BeyondDivisor);
@@ -29,8 +29,7 @@ pub fn refusal_of(bits: u32, x: u64, e: u32, y: u64) -> Result<(), Refusal>
 }
 
 pub fn refusal<W: Width>(x: W, e: u32, y: W) -> Result<(), Refusal>
-    ensures { MatchResult result (λ _. 0 ≡ number_of (reduce_of (bits_of W.layout) (W.pattern x) e (W.pattern y)))
-        (λ r. refusal_number r ≡ number_of (reduce_of (bits_of W.layout) (W.pattern x) e (W.pattern y))) }
+    ensures { number_of (answer_of (λ _. 0) result) ≡ number_of (reduce_of (bits_of W.layout) (W.pattern x) e (W.pattern y)) }
 {
     refusal_of(bits_of(W::format()), x.widen(), e, y.widen())
 }

@@ -71,6 +71,10 @@ no_bits x e j l = sym (mod_is (x * 2 ^ e) (2 ^ j) (x * 2 ^ (e - j)) 0 (pow_pos j
 power_in_word : (w y : ℕ) → (p : Power y) → y < 2 ^ w → p.exponent < w
 power_in_word w y p l = pow_inj_lt p.exponent w (omega (arith, p.is))
 
+-- a power of two is not 0
+pub power_some : {y : ℕ} → Power y → 1 ≤ y
+power_some p = omega (arith, p.is, pow_pos p.exponent)
+
 pub power_leaves_low_bits : (w x e y : ℕ) → Power y → y < 2 ^ w → bit_and (x * 2 ^ e % 2 ^ w) (y - 1) ≡ x * 2 ^ e % y
 power_leaves_low_bits w x e y p l =
     let j = p.exponent in

@@ -160,6 +160,9 @@ module _ {w : ℕ} (wide : 3 ≤ w) where
       words : (u * r / 2 ^ w + v / 2) * 2 ^ w + u * r % 2 ^ w ≡ u * r + v / 2 * 2 ^ w
       words = omega (arith, div_mod (u * r) (2 ^ w) (pow_pos w))
 
+      pub word_upper : u * r / 2 ^ w + v / 2 < 2 ^ w
+      word_upper = mul_lt_cancel (u * r / 2 ^ w + v / 2) (2 ^ w) (2 ^ w) (omega (arith, words, word_room))
+
       pub word_holds_words : Stepped w (w - 1) m r t u m r ((u * r / 2 ^ w + v / 2) * 2 ^ w + u * r % 2 ^ w)
       word_holds_words = subst (Stepped w (w - 1) m r t u m r) (sym words) word_holds
 

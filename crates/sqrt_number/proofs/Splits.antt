@@ -137,3 +137,10 @@ module _ (p sig up : ℕ) (l : Leads p sig) where
   -- the significand has nothing below its last bit
   pub word_empty : word_of p sig up % 2 ^ (62 - p) ≡ 0
   word_empty = mod_is _ (2 ^ (62 - p)) (sig * 2 ^ odd) 0 (pow_pos (62 - p)) (omega (arith, times sig (pow-add 2 (62 - p) odd)))
+
+-- at 32 bits the lower half of the word is zero
+pub half_empty : (sig odd : ℕ) → sig * 2 ^ (62 - 23 + odd) % 2 ^ 32 ≡ 0
+half_empty sig odd = mod_is _ (2 ^ 32) (sig * 2 ^ (7 + odd)) 0 (omega arith) (omega (arith, times sig (ap (λ j. 2 ^ j) i ∙ pow-add 2 (7 + odd) 32)))
+  where
+    i : 62 - 23 + odd ≡ 7 + odd + 32
+    i = omega arith

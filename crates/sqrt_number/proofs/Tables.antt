@@ -12,9 +12,8 @@ use Rattle.ieee.specs.Pattern.{Pattern}
 use Rattle.ieee.specs.Round.{Way, even, away, shorter, longer}
 use Rattle.sqrt_digits.specs.Floor.{pairs}
 use Rattle.sqrt_table.specs.Table.{entry_of, Serves}
-use Rattle.sqrt_table.specs.Guess.{Begins}
+use Rattle.sqrt_table.specs.Guess.{Starts}
 use Rattle.sqrt_table.specs.Residual.{Residual, exact_by}
-use Rattle.sqrt_table.proofs.Rule.{begins}
 use Rattle.sqrt_number.specs.Split.{word_of, limit_by, rises_by, whole_by, rounded_by, Ready, Room, RaisedRoot}
 use Rattle.sqrt_number.proofs.Splits.{word_high, word_root, word_empty}
 
@@ -56,8 +55,8 @@ module _ {f k : Format} (e : k ≡ f) (sig up : ℕ) (r : Ready f sig up) (word 
   pub empty : word % 2 ^ (62 - f.frac) ≡ 0
   empty = subst (λ m. m % 2 ^ (62 - f.frac) ≡ 0) (sym word_is) (word_empty f.frac sig up r.leads)
 
-  pub begun : (i guess : ℕ) → Serves i (word_of k.frac sig up / 2 ^ 32) → guess ≡ entry_of i * 2 ^ 16 → Begins (word / 2 ^ 32) guess
-  begun i guess s e = begins (word / 2 ^ 32) guess (record { step = i; serves = subst (λ m. Serves i (m / 2 ^ 32)) (sym is) s; is = e })
+  pub begun : (i guess : ℕ) → Serves i (word_of k.frac sig up / 2 ^ 32) → guess ≡ entry_of i * 2 ^ 16 → (2 ^ 62 ≤ word) × Starts (word / 2 ^ 32) guess
+  begun i guess s e = (long, record { step = i; serves = subst (λ m. Serves i (m / 2 ^ 32)) (sym is) s; is = e })
 
   module _ (q rem : ℕ) (c : Residual (pairs word (f.frac + 1)) q rem) where
     close : Residual (pairs (word_of f.frac sig up) (f.frac + 1)) q rem

@@ -10,7 +10,7 @@ use text_numbers::write::write_bytes;
 pub const KEPT: usize = 128;
 
 // The first `held` bytes are kept, and there may have been more. An array, as there is no heap; a number of any size may stand in `held`, and no call fails by it.
-#[derive(Drop)]
+#[derive(Clone, Copy)]
 pub struct Line {
     pub bytes: [u8; KEPT],
     pub held: usize,
@@ -54,7 +54,8 @@ impl Line {
 
     // Begins the next line.
     pub fn clear(&mut self)
-        ensures { none_kept self.new }
+        ensures none { none_kept self.new }
+        ensures bytes { self.new.bytes ≡ self.old.bytes }
     {
         self.held = 0;
         self.is_long = false;

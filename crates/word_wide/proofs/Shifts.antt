@@ -5,7 +5,22 @@ use Rattle.algebra.proofs.Products.{order, times, times_le, mul_lt_cancel}
 use Rattle.algebra.proofs.Quotients.{div_is, div_mod, mod_is}
 use Rattle.word_wide.proofs.Pairs.{upper_is_word}
 
--- Two words times p, a factor of a word or more: the lower word becomes the upper, and the old upper word is 0
+-- Two words times m: the upper word takes the carry of the lower.
+module _ (B m ah al : ℕ) (fits : (ah * B + al) * m < B * B) where
+  upper_stays : ah * m < B
+  upper_stays = upper_is_word B (ah * m) ((ah * B + al) * m) (omega arith) fits
+
+  upper_whole : ah * m % B ≡ ah * m
+  upper_whole = mod_is (ah * m) B 0 (ah * m) upper_stays (omega arith)
+
+  pub left : (h l : ℕ) → h ≡ ah * m % B + al * m / B → l ≡ al * m % B → h * B + l ≡ (ah * B + al) * m
+  left h l e f = omega (arith, times B e, times B upper_whole, div-add-mod' (al * m) B)
+
+  pub left_fits : (h : ℕ) → h ≡ ah * m % B + al * m / B → h < B
+  left_fits h e =
+      upper_is_word B h ((ah * B + al) * m) (omega (arith, times B e, times B upper_whole, div-add-mod' (al * m) B)) fits
+
+-- times p, a factor of a word or more: the lower word becomes the upper, and the old upper word is 0
 module _ (B m p ah al : ℕ) (scaled : m * B ≡ p) (positive : 0 < m) (fits : (ah * B + al) * p < B * B) where
   product_is_word : (ah * B + al) * m < B
   product_is_word = upper_is_word B ((ah * B + al) * m) ((ah * B + al) * p) (omega (arith, times (ah * B + al) scaled)) fits

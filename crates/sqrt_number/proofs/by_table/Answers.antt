@@ -2,6 +2,7 @@
 use Rattle.std.proofs.Common.{false, ap, ◌∙◌}
 use Rattle.ieee.specs.Round.{way_of}
 use Rattle.fmt_fields.specs.Raised.{attribute_of, flags_of}
+use Rattle.sqrt_table.proofs.Rule as rule
 use Rattle.sqrt_number.proofs.Tables.{long, empty, begun, room, held, raised_root}
 use Rattle.sqrt_number.proofs.by_table.Goals as goal
 
@@ -9,7 +10,7 @@ pub invariant_of-near_root : goal.invariant_of-near_root
 invariant_of-near_root g c =
     record {
       least = long c.format-fmt.ensures c.args.parts.sig c.args.parts.up c.requires c.word-word.result c.word-word.ensures;
-      begins = begun c.format-fmt.ensures c.args.parts.sig c.args.parts.up c.requires c.word-word.result c.word-word.ensures c.step.result c.reciprocal-guess.result c.step.ensures c.reciprocal-guess.ensures;
+      begins = rule.begins _ _ (begun c.format-fmt.ensures c.args.parts.sig c.args.parts.up c.requires c.word-word.result c.word-word.ensures c.step.result c.reciprocal-guess.result c.step.ensures c.reciprocal-guess.ensures).1;
     }
 
 pub near_root-near-requires : goal.near_root-near-requires
