@@ -1,5 +1,7 @@
 // The attributes of rounding, and their numbers.
-ghost use Rattle.fmt_fields.specs.Numbered.{Decodes};
+ghost use Rattle.std.specs.Prelude.{◌<◌};
+ghost use Rattle.fmt_fields.specs.Raised.{attribute_of};
+ghost use Rattle.fmt_fields.specs.Numbered.{Names, Decodes};
 
 use crate::refusal::Refusal;
 
@@ -11,26 +13,6 @@ pub enum Attribute {
     Down,
     Up,
     Away,
-}
-
-impl Attribute {
-    ghost use Rattle.std.specs.Prelude.{◌<◌};
-    ghost use Rattle.fmt_fields.specs.Raised.{attribute_of};
-    ghost use Rattle.fmt_fields.specs.Numbered.{Names};
-
-    // The attribute of a number that is known to be one's.
-    pub fn of_number(number: u32) -> Attribute
-        requires { number < 5 }
-        ensures { Names number (attribute_of result) }
-    {
-        match number {
-            0 => Attribute::Even,
-            1 => Attribute::Zero,
-            2 => Attribute::Down,
-            3 => Attribute::Up,
-            _ => Attribute::Away,
-        }
-    }
 }
 
 impl TryFrom<u32> for Attribute {
@@ -47,5 +29,19 @@ impl TryFrom<u32> for Attribute {
             4 => Ok(Attribute::Away),
             _ => Err(Refusal::NoAttribute),
         }
+    }
+}
+
+// The attribute of a number that is known to be one's. No method, so that the face, which has the type, has no function that asks something.
+pub fn attribute_of(number: u32) -> Attribute
+    requires { number < 5 }
+    ensures { Names number (attribute_of result) }
+{
+    match number {
+        0 => Attribute::Even,
+        1 => Attribute::Zero,
+        2 => Attribute::Down,
+        3 => Attribute::Up,
+        _ => Attribute::Away,
     }
 }

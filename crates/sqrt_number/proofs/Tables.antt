@@ -59,7 +59,7 @@ module _ {f k : Format} (e : k ≡ f) (sig up : ℕ) (r : Ready f sig up) (word 
   begun i guess s e = (long, record { step = i; serves = subst (λ m. Serves i (m / 2 ^ 32)) (sym is) s; is = e })
 
   module _ (q rem : ℕ) (c : Residual (pairs word (f.frac + 1)) q rem) where
-    close : Residual (pairs (word_of f.frac sig up) (f.frac + 1)) q rem
+    pub close : Residual (pairs (word_of f.frac sig up) (f.frac + 1)) q rem
     close = subst (λ m. Residual (pairs m (f.frac + 1)) q rem) word_is c
 
     room_by : Room f q up
